@@ -1,0 +1,5 @@
+pub mod Bytes
+pub mod HostToDevice
+pub mod DeviceToHost
+pub mod SetDeviceBits
+pub mod Commands
