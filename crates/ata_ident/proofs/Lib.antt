@@ -1,0 +1,6 @@
+pub mod Pairs
+pub mod Parts
+pub mod ReadBack
+pub mod Seal
+pub mod Texts
+pub mod Words

@@ -1,0 +1,4 @@
+pub mod Build
+pub mod Drive
+pub mod Read
+pub mod Text
