@@ -1,0 +1,4 @@
+pub mod Bytes
+pub mod Category
+pub mod Counts
+pub mod Marks

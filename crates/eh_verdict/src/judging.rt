@@ -1,0 +1,42 @@
+ghost use Rattle.std.specs.Prelude.{◌≡◌, ◌+◌, ◌<◌};
+ghost use Rattle.eh_verdict.specs.Table.{verdict_of};
+
+use crate::words::Verdict;
+use ata_base::Ms;
+use eh_ring::Ring;
+
+// The two windows, in milliseconds.
+const SHORT: u64 = 300_000;
+
+const LONG: u64 = 600_000;
+
+/// The verdict over a ring at the time `now`: each word that a line of the table of windows adds whose condition
+/// holds. The windows are 5 and 10 minutes long, and begin at 0 where they would begin before it.
+pub fn verdict(r: &Ring, now: Ms) -> Verdict
+    ensures { result ≡ verdict_of r.now now.n }
+{
+    let short = r.counts(Ms {
+        n: now.n.saturating_sub(SHORT),
+    });
+    let long = r.counts(Ms {
+        n: now.n.saturating_sub(LONG),
+    });
+    let dubious_wire = total(short.dbus, short.dtime) > 1;
+    let dubious_queue = total(short.dtime, short.dunk) > 1;
+    let many = total(short.bus, short.time) + short.unk as u16 > 6;
+    let queue_errors = total(long.time, long.unk) > 3;
+    let slow_errors = total(long.bus, long.time) > 3 || long.unk > 6;
+    Verdict {
+        ncq_off: dubious_queue || queue_errors,
+        speed_down: dubious_wire || slow_errors,
+        pio: dubious_wire || many,
+        keep: dubious_wire || dubious_queue,
+    }
+}
+
+fn total(a: u8, b: u8) -> u16
+    ensures value { result ≡ a + b }
+    ensures small { result < 512 }
+{
+    a as u16 + b as u16
+}
