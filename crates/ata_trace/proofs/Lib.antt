@@ -1,0 +1,3 @@
+mod HeadLemmas
+pub mod Pasts
+pub mod Words

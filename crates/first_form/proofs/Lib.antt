@@ -1,0 +1,6 @@
+mod NameLemmas
+mod NumberLemmas
+mod OneScript
+mod PartLemmas
+mod ScriptLemmas
+mod StepLemmas
