@@ -1,0 +1,7 @@
+pub mod Asked
+pub mod Links
+pub mod Moments
+pub mod Once
+pub mod Stamps
+pub mod Success
+pub mod Tags

@@ -1,0 +1,36 @@
+use Rattle.std.specs.Prelude.{ℕ, ◌==◌, List, [], ◌∷◌, ◌++◌, Option, Some, None, if◌then◌else◌}
+use Rattle.std.specs.List.{find}
+use Rattle.ata_base.specs.declared.issue_no.IssueNo.{IssueNo}
+use Rattle.ata_trace.specs.Event.{Event}
+use Rattle.ata_trace.specs.declared.act.Act.{Act}
+use Rattle.ata_trace.specs.declared.act.Act.TheVariants.{AnsweredOk, Nothing}
+use Rattle.host_tags.specs.declared.in_flight.InFlight.{InFlight}
+use Rattle.port_past.specs.declared.finished.Finished.{Finished}
+use Rattle.port_past.specs.Finished.{finished, without_finished}
+use Rattle.port_past.specs.Line.{is_line_up}
+use Rattle.port_past.specs.Slots.{slots}
+
+-- what the drive gave of an issue that it ended well
+abbrev pub finish_of : IssueNo → List Finished → Option Finished
+finish_of number finished = find (λ f. f.number.n == number.n) finished
+
+-- the answer of an issue, where it is finished
+abbrev pub answer_of : InFlight → Option Finished → List Act
+answer_of flight None = []
+answer_of flight (Some f) = AnsweredOk flight.cmd flight.n f.status f.error f.lba f.count f.stamps ∷ []
+
+-- the answers of the finished issues in flight, in tag order, each finished issue once
+abbrev pub answers : List (Option InFlight) → List Finished → List Act
+answers [] finished = []
+answers (None ∷ rest) finished = answers rest finished
+answers (Some flight ∷ rest) finished =
+    answer_of flight (finish_of flight.n finished) ++ answers rest (without_finished flight.n finished)
+
+-- an entry has at least one act
+abbrev pub or_nothing : List Act → List Act
+or_nothing [] = Nothing ∷ []
+or_nothing (act ∷ rest) = act ∷ rest
+
+-- the acts of an interrupt: with the line down, nothing
+abbrev pub irq_acts : ℕ → List Event → List Act
+irq_acts size past = if is_line_up past then or_nothing (answers (slots past) (finished size past)) else Nothing ∷ []
