@@ -1,0 +1,17 @@
+use Rattle.port_laws.proofs.Links.{links_are_unmixed}
+use Rattle.port_laws.proofs.Once.{once_or_live}
+use Rattle.port_laws.proofs.Success.{successes_are_done_well}
+use Rattle.port_laws.proofs.Tags.{tags_are_free}
+use Rattle.port_core.proofs.port.Port.step.Goals as goal
+
+pub returns-clause-once : goal.returns-clause-once
+returns-clause-once c = once_or_live c.self.inside.head c.take.new.ledger.entries c.take.ensures.legal
+
+pub returns-clause-success : goal.returns-clause-success
+returns-clause-success c = successes_are_done_well c.self.inside.head c.take.new.ledger.entries c.take.ensures.legal
+
+pub returns-clause-tags : goal.returns-clause-tags
+returns-clause-tags c = tags_are_free c.self.inside.head c.take.new.ledger.entries c.take.ensures.legal
+
+pub returns-clause-links : goal.returns-clause-links
+returns-clause-links c = links_are_unmixed c.self.inside.head c.take.new.ledger.entries c.take.ensures.legal

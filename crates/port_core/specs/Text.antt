@@ -1,0 +1,40 @@
+use Rattle.std.specs.Prelude.{ℕ, ◌-◌, ◌==◌, List, [], ◌∷◌, ◌++◌, codes, decimal, length, if◌then◌else◌}
+use Rattle.std.specs.List.{flat_map, list_any}
+use Rattle.ata_trace.specs.Entries.{Record, past_of}
+use Rattle.ata_trace.specs.Text.{act_line, head_line, joined}
+use Rattle.port_past.specs.Accepted.{accepted, live}
+
+-- the line that a port's text begins with, and its line feed
+abbrev pub port_line : ℕ → List ℕ
+port_line number = joined (codes "port") (decimal number ∷ []) ++ codes "\n"
+
+-- the lines of an entry: its head, and a line for each act
+abbrev pub entry_text : Record → List ℕ
+entry_text entry = head_line entry.at entry.who entry.seq entry.step ++ flat_map act_line entry.acts
+
+-- the line of a live command
+abbrev pub live_line : ℕ → List ℕ
+live_line id = joined (codes "live") (decimal id ∷ []) ++ codes "\n"
+
+-- of the accepted commands, those that are live have a line
+abbrev pub live_text : List ℕ → ℕ → List ℕ
+live_text lives id = if list_any (λ c. c == id) lives then live_line id else []
+
+-- the line that a port's text ends with: how many commands were accepted, answered, and are live
+abbrev pub end_line : ℕ → ℕ → ℕ → List ℕ
+end_line number accepted live =
+    joined (codes "end") (decimal number ∷ decimal accepted ∷ decimal (accepted - live) ∷ decimal live ∷ []) ++ codes "\n"
+
+-- the live commands in the order of acceptance, and the counts
+abbrev pub counts_text : ℕ → List Record → List ℕ
+counts_text number entries =
+    flat_map (live_text (live (past_of entries))) (accepted (past_of entries))
+    ++ end_line number (length (accepted (past_of entries))) (length (live (past_of entries)))
+
+-- the entries, the live commands and the counts
+abbrev pub rest_text : ℕ → List Record → List ℕ
+rest_text number entries = flat_map entry_text entries ++ counts_text number entries
+
+-- the text of a port: its number, its entries, its live commands and its counts
+abbrev pub port_text : ℕ → List Record → List ℕ
+port_text number entries = port_line number ++ rest_text number entries

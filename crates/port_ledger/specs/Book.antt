@@ -1,0 +1,17 @@
+use Rattle.std.specs.Prelude.{◌≡◌, ℕ, ◌+◌, ◌≤◌, List}
+use Rattle.ata_trace.specs.Entries.{Record, past_of}
+use Rattle.ata_trace.specs.Event.{Event}
+
+-- a ledger: how many sectors the port's drive has, the entries of the journal, and for how many more
+-- entries and acts there is room
+pub record Book : Type 0 where
+  pub size : ℕ
+  pub entries : List Record
+  pub begins : ℕ
+  pub room : ℕ
+
+-- a ledger goes on to this past, at the cost of room for so many acts
+pub record Goes (before after : Book) (acts : ℕ) (events : List Event) : Type 0 where
+  pub past : past_of after.entries ≡ events
+  pub size : after.size ≡ before.size
+  pub room : before.room ≤ after.room + acts

@@ -1,0 +1,292 @@
+ghost use Rattle.std.specs.Prelude.{◌≡◌, ◌+◌, ◌<◌, ◌≤◌, ◌==◌, ◌^◌, ◌∷◌, [], false, length, find, slice_index, IfOk, IfSome, OnOk};
+ghost use Rattle.std.specs.List.{list_any, slice_index_or};
+ghost use Rattle.ata_trace.specs.Entries.{past_of};
+ghost use Rattle.ata_trace.specs.Event.Event.{Began, Told};
+ghost use Rattle.ata_trace.specs.declared.who.Who.TheVariants as by;
+ghost use Rattle.ata_trace.specs.declared.step.Step.TheVariants as steps;
+ghost use Rattle.host_queue.specs.Waiting.{front_of};
+ghost use Rattle.port_past.specs.Accepted.{accepted, live};
+ghost use Rattle.port_past.specs.Clock.{clock};
+ghost use Rattle.port_past.specs.Device.{attached, sectors, depths, ncq};
+ghost use Rattle.port_past.specs.Drive.{held, picked};
+ghost use Rattle.port_past.specs.Finished.{finished};
+ghost use Rattle.port_past.specs.Issues.{issues};
+ghost use Rattle.port_past.specs.Line.{is_line_up};
+ghost use Rattle.port_past.specs.Queues.{queues};
+ghost use Rattle.port_past.specs.Slots.{slots};
+ghost use Rattle.port_ledger.specs.Book.{Goes};
+ghost use Rattle.port_ledger.specs.Parts.{CanServe};
+ghost use Rattle.port_ledger.specs.Sound.{IsSound};
+
+use crate::devices::{Devices, note_devices};
+use crate::drive::Drive;
+use crate::finishes::Finishes;
+use crate::lines::Lines;
+use crate::notes;
+use crate::roll::Roll;
+use ata_base::{Cmd, CmdId, IssueNo, Ms, OutOfMemory, Pick, Place};
+use ata_trace::{Act, Journal, Step, Who};
+use host_tags::Slots;
+use port_past::{Finished, Held};
+use std::alloc::Global;
+use std::marker::Model;
+
+/// How many acts an entry has at most.
+const MOST_ACTS: usize = 128;
+
+/// How many issues or attachments there may be before an entry, so that they stay below 2^64.
+const MOST_COUNTED: u64 = 18_446_744_073_709_551_487;
+
+/// How many commands may be accepted before an entry, so that they stay below 2^32.
+const MOST_ACCEPTED: usize = 4_294_967_167;
+
+/// The journal of a port, and beside it every part that keeps a reading of the journal's past.
+///
+/// It changes in two ways: `begin` begins an entry, and `note` tells an act of it.
+#[derive(Drop)]
+pub struct Ledger {
+    journal: Journal,
+    begins: usize,
+    room: usize,
+    step: Step,
+    clock: u64,
+    line: bool,
+    issues: u64,
+    attachments: u64,
+    devices: Devices,
+    roll: Roll,
+    lines: Lines,
+    slots: Slots,
+    drive: Drive,
+    finishes: Finishes,
+}
+
+impl Model for Ledger {
+    ghost use Rattle.std.specs.Prelude.{length};
+    ghost use Rattle.port_ledger.specs.Book.{Book};
+
+    ghost Value = { Book };
+
+    ghost use Rattle.port_ledger.specs.Tracks.{Tracks};
+
+    ghost view = { λ l. record {
+      size = length l.drive.stamps;
+      entries = l.journal.entries;
+      begins = l.begins;
+      room = l.room;
+    } };
+
+    ghost invariant = { Tracks };
+}
+
+impl Ledger {
+    /// A journal in which the boot entry has begun, of a port whose drive has `size` sectors, at most
+    /// 65,536. There is room for 128 acts.
+    pub fn new(alloc: Global, size: usize) -> Result<Ledger, OutOfMemory>
+        requires { size ≤ 65536 }
+        ensures size { IfOk result (λ l. l.size ≡ size) }
+        ensures past { IfOk result (λ l. past_of l.entries ≡ Began 0 by.Boot 0 steps.Boot ∷ []) }
+        ensures room { IfOk result (λ l. l.room ≡ 128) }
+    {
+        let mut journal = Journal::new(alloc);
+        journal.reserve()?;
+        journal.begin(Ms { n: 0 }, Who::Boot, 0, Step::Boot);
+        let mut ledger = Ledger {
+            journal,
+            begins: 0,
+            room: 0,
+            step: Step::Boot,
+            clock: 0,
+            line: false,
+            issues: 0,
+            attachments: 0,
+            devices: Devices {
+                attached: [false; 15],
+                sectors: [0; 15],
+                depths: [0; 15],
+                ncq: [false; 15],
+            },
+            roll: Roll::new(alloc)?,
+            lines: Lines::new(alloc, size)?,
+            slots: Slots::new(),
+            drive: Drive::new(alloc, size)?,
+            finishes: Finishes::new(alloc),
+        };
+        ledger.reserve()?;
+        Ok(ledger)
+    }
+
+    /// Makes room for one entry and 128 acts. The journal stays, also where memory is wanted.
+    pub fn reserve(&mut self) -> Result<(), OutOfMemory>
+        ensures size { self.new.size ≡ self.old.size }
+        ensures entries { self.new.entries ≡ self.old.entries }
+        ensures begins { OnOk result (self.new.begins ≡ 1) }
+        ensures room { OnOk result (self.new.room ≡ 128) }
+    {
+        let accepted = self.roll.accepted().len();
+        if self.issues > MOST_COUNTED
+            || self.attachments > MOST_COUNTED
+            || accepted > MOST_ACCEPTED
+        {
+            return Err(OutOfMemory);
+        }
+        self.journal.reserve()?;
+        self.roll.reserve(MOST_ACTS)?;
+        self.lines.reserve(MOST_ACTS)?;
+        self.drive.reserve(MOST_ACTS)?;
+        self.finishes.reserve(MOST_ACTS)?;
+        self.begins = 1;
+        self.room = MOST_ACTS;
+        Ok(())
+    }
+
+    /// Begins an entry, at the time by the clock.
+    pub fn begin(&mut self, who: Who, seq: u64, step: &Step)
+        requires { 0 < self.old.begins }
+        ensures { Goes self.old self.new 0 (Began (clock (past_of self.old.entries)) who seq step.now ∷ past_of self.old.entries) }
+    {
+        self.journal.begin(Ms { n: self.clock }, who, seq, *step);
+        self.line = notes::line_at(step, self.line);
+        self.step = *step;
+        self.begins -= 1;
+    }
+
+    /// Tells an act of the last entry.
+    pub fn note(&mut self, act: Act)
+        requires room { 0 < self.old.room }
+        requires sound { IsSound self.old.size (past_of self.old.entries) act }
+        ensures { Goes self.old self.new 1 (Told act ∷ past_of self.old.entries) }
+    {
+        // A part that reads another as it was before the act comes before that one.
+        notes::note_finishes(&mut self.finishes, &self.drive, &act);
+        notes::note_drive(&mut self.drive, &self.lines, &act, &self.step);
+        notes::note_lines(&mut self.lines, &act, &self.step, self.attachments);
+        notes::note_slots(&mut self.slots, &act, &self.step);
+        notes::note_roll(&mut self.roll, &act);
+        note_devices(&mut self.devices, &act, self.drive.size());
+        self.issues = notes::issues_after(&act, self.issues);
+        self.attachments = notes::attachments_after(&act, self.attachments);
+        self.line = notes::line_after(&act, self.line);
+        self.journal.add(act);
+        self.room -= 1;
+    }
+
+    /// The journal.
+    pub fn journal(&self) -> &Journal
+        ensures { result.now.entries ≡ self.now.entries }
+    {
+        &self.journal
+    }
+
+    /// The time in ms by the clock, at most 2^62.
+    pub fn clock(&self) -> Ms
+        ensures value { result.n ≡ clock (past_of self.now.entries) }
+        ensures early { result.n ≤ 2 ^ 62 }
+    {
+        Ms { n: self.clock }
+    }
+
+    /// Whether the interrupt line is up.
+    pub fn is_line_up(&self) -> bool
+        ensures { result ≡ is_line_up (past_of self.now.entries) }
+    {
+        self.line
+    }
+
+    /// How many issues there were.
+    pub fn issues(&self) -> u64
+        ensures value { result ≡ issues (past_of self.now.entries) }
+        ensures room { result + self.now.room < 2 ^ 64 }
+    {
+        self.issues
+    }
+
+    /// Whether a command of this number was accepted.
+    pub fn is_accepted(&self, id: CmdId) -> bool
+        ensures { result ≡ list_any (λ c. c == id) (accepted (past_of self.now.entries)) }
+    {
+        self.roll.is_accepted(id)
+    }
+
+    /// Whether the command of this number is live.
+    pub fn is_live(&self, id: CmdId) -> bool
+        ensures { result ≡ list_any (λ c. c == id) (live (past_of self.now.entries)) }
+    {
+        self.roll.is_live(id)
+    }
+
+    /// How many commands are live.
+    pub fn live(&self) -> u32
+        ensures value { result ≡ length (live (past_of self.now.entries)) }
+        ensures most { result ≤ length (accepted (past_of self.now.entries)) }
+    {
+        self.roll.live() as u32
+    }
+
+    /// The numbers of the accepted commands, in the order of acceptance.
+    pub fn accepted(&self) -> &[CmdId]
+        ensures { result.now ≡ accepted (past_of self.now.entries) }
+    {
+        self.roll.accepted()
+    }
+
+    /// Whether a device is attached at a place.
+    pub fn is_attached(&self, place: Place) -> bool
+        ensures { result ≡ slice_index_or (attached (past_of self.now.entries)) place false }
+    {
+        self.devices.attached[place.get() as usize]
+    }
+
+    /// How many sectors the device at a place has.
+    pub fn sectors(&self, place: Place) -> u64
+        ensures value { result ≡ slice_index (sectors (past_of self.now.entries)) place }
+        ensures most { result ≤ self.now.size }
+    {
+        self.devices.sectors[place.get() as usize]
+    }
+
+    /// The depth of the queue of the device at a place, 0 without NCQ.
+    pub fn depth(&self, place: Place) -> u8
+        ensures { result ≡ slice_index (depths (past_of self.now.entries)) place }
+    {
+        self.devices.depths[place.get() as usize]
+    }
+
+    /// Whether NCQ is on at a place.
+    pub fn is_ncq_on(&self, place: Place) -> bool
+        ensures { result ≡ slice_index_or (ncq (past_of self.now.entries)) place false }
+    {
+        self.devices.ncq[place.get() as usize]
+    }
+
+    /// The command at the front of a place's queue, None exactly where none waits there.
+    pub fn front(&self, place: Place) -> Option<Cmd>
+        ensures value { result ≡ front_of (queues (past_of self.now.entries)) place }
+        ensures fits { IfSome result (CanServe self.now.size) }
+        ensures small { self.now.size ≤ 65536 }
+    {
+        let _size = self.drive.size();
+        self.lines.front(place)
+    }
+
+    /// The issues in flight, by tag.
+    pub fn slots(&self) -> Slots
+        ensures { result ≡ slots (past_of self.now.entries) }
+    {
+        self.slots
+    }
+
+    /// The issue that the drive works on next, None exactly where it holds none.
+    pub fn picked(&self, pick: Pick) -> Option<Held>
+        ensures { result ≡ picked pick (held (past_of self.now.entries)) }
+    {
+        self.drive.picked(pick)
+    }
+
+    /// What the drive gave of an issue, None exactly where it isn't finished or is answered.
+    pub fn finished(&self, number: IssueNo) -> Option<Finished>
+        ensures { result ≡ find (λ f. f.number.n == number.n) (finished self.now.size (past_of self.now.entries)) }
+    {
+        self.finishes.get(number)
+    }
+}

@@ -1,0 +1,247 @@
+ghost use Rattle.std.specs.Prelude.{◌≡◌, ◌+◌, ◌<◌, ◌≤◌, ◌^◌, length};
+ghost use Rattle.ata_trace.specs.Event.Event.{Told};
+ghost use Rattle.port_past.specs.Accepted.{accepted_after, live_after};
+ghost use Rattle.port_past.specs.Device.{attachments_after};
+ghost use Rattle.port_past.specs.Drive.{is_good, held_after, stamps_after, kick_hands};
+ghost use Rattle.port_past.specs.Finished.{finished_after};
+ghost use Rattle.port_past.specs.Issues.{issues_after};
+ghost use Rattle.port_past.specs.Line.{line_after, line_begun};
+ghost use Rattle.port_past.specs.Queues.{queues_after, submit_joins, kick_serves};
+ghost use Rattle.port_past.specs.Slots.{slots_after, fresh_flight};
+ghost use Rattle.port_ledger.specs.Sound.{AskedFits, IsFitting, IsNew};
+
+use crate::drive::Drive;
+use crate::finishes::Finishes;
+use crate::lines::Lines;
+use crate::roll::Roll;
+use ata_base::{Cmd, CmdId, ErrMask, IssueNo, Ms, Place};
+use ata_trace::{Act, Step};
+use bitflags::Flags;
+use host_tags::{InFlight, Slots};
+use port_past::Finished;
+
+// One function for each part that an act can change: what the part is after the act.
+
+/// The interrupt line when a step begins.
+pub fn line_at(step: &Step, was: bool) -> bool
+    ensures { result ≡ line_begun step.now was }
+{
+    match step {
+        Step::Irq => false,
+        _ => was,
+    }
+}
+
+/// The interrupt line after an act.
+pub fn line_after(act: &Act, was: bool) -> bool
+    ensures { result ≡ line_after (Told act.now) was }
+{
+    match act {
+        Act::Raised => true,
+        _ => was,
+    }
+}
+
+/// How many issues there were after an act.
+pub fn issues_after(act: &Act, was: u64) -> u64
+    requires { was + 1 < 2 ^ 64 }
+    ensures value { result ≡ issues_after (Told act.now) was }
+    ensures most { result ≤ was + 1 }
+{
+    match act {
+        Act::Issued { .. } => was + 1,
+        _ => was,
+    }
+}
+
+/// How many attachments there were after an act.
+pub fn attachments_after(act: &Act, was: u64) -> u64
+    requires { was + 1 < 2 ^ 64 }
+    ensures value { result ≡ attachments_after (Told act.now) was }
+    ensures most { result ≤ was + 1 }
+{
+    match act {
+        Act::Attached { .. } => was + 1,
+        _ => was,
+    }
+}
+
+/// The roll: an accepted command is live until it is answered.
+pub fn note_roll(roll: &mut Roll, act: &Act)
+    requires room { 0 < roll.old.room }
+    requires new { IsNew roll.old.accepted act.now }
+    ensures accepted { roll.new.accepted ≡ accepted_after (Told act.now) roll.old.accepted }
+    ensures live { roll.new.live ≡ live_after (Told act.now) roll.old.live }
+    ensures most { length roll.new.accepted ≤ length roll.old.accepted + 1 }
+    ensures room { roll.old.room ≤ roll.new.room + 1 }
+{
+    match act {
+        Act::Accepted { id } => roll.accept(*id),
+        Act::AnsweredOk { id, .. } => roll.answer(*id),
+        _ => {}
+    }
+}
+
+/// The queues: an accepted command joins as its step submitted it, an issued one leaves.
+pub fn note_lines(lines: &mut Lines, act: &Act, step: &Step, device: u64)
+    requires room { 0 < lines.old.room }
+    requires fits { IsFitting lines.old.size step.now act.now }
+    ensures lists { lines.new.lists ≡ queues_after (Told act.now) step.now device lines.old.lists }
+    ensures size { lines.new.size ≡ lines.old.size }
+    ensures room { lines.old.room ≤ lines.new.room + 1 }
+{
+    match act {
+        Act::Accepted { .. } => note_join(lines, step, device),
+        Act::Issued { .. } => note_serve(lines, step),
+        _ => {}
+    }
+}
+
+fn note_join(lines: &mut Lines, step: &Step, device: u64)
+    requires room { 0 < lines.old.room }
+    requires fits { AskedFits lines.old.size step.now }
+    ensures lists { lines.new.lists ≡ submit_joins step.now device lines.old.lists }
+    ensures size { lines.new.size ≡ lines.old.size }
+    ensures room { lines.old.room ≤ lines.new.room + 1 }
+{
+    if let Step::Submit {
+        id,
+        place,
+        op,
+        allow,
+        wait,
+    } = step
+    {
+        lines.join(Cmd {
+            id: *id,
+            place: *place,
+            op: *op,
+            allow: allow.get(),
+            retries: 0,
+            wait: wait.get(),
+            device,
+        });
+    }
+}
+
+fn note_serve(lines: &mut Lines, step: &Step)
+    ensures lists { lines.new.lists ≡ kick_serves step.now lines.old.lists }
+    ensures size { lines.new.size ≡ lines.old.size }
+    ensures room { lines.new.room ≡ lines.old.room }
+{
+    if let Step::Kick { place } = step {
+        lines.serve(*place);
+    }
+}
+
+/// The slots: an issue is in flight under its tag until its answer.
+pub fn note_slots(slots: &mut Slots, act: &Act, step: &Step)
+    ensures { slots.new ≡ slots_after (Told act.now) step.now slots.old }
+{
+    match act {
+        Act::Issued {
+            id,
+            number,
+            tag,
+            deadline,
+            fis,
+        } => {
+            if let Step::Kick { place } = step {
+                slots.put(*tag, fresh_flight(*id, *number, *place, *deadline, fis));
+            }
+        }
+        Act::AnsweredOk { number, .. } => slots.release_issue(*number),
+        _ => {}
+    }
+}
+
+/// An issue that has just begun.
+fn fresh_flight(id: CmdId, number: IssueNo, place: Place, deadline: Ms, fis: &[u8; 20]) -> InFlight
+    ensures { result ≡ fresh_flight id number place deadline fis.now }
+{
+    InFlight {
+        cmd: id,
+        n: number,
+        place,
+        queued: fis[2] == 0x60 || fis[2] == 0x61,
+        deadline,
+        expired: false,
+        owned: false,
+        kinds: ErrMask::empty(),
+    }
+}
+
+/// The drive: it takes what is issued at its place, and gives up what it ends.
+pub fn note_drive(drive: &mut Drive, lines: &Lines, act: &Act, step: &Step)
+    requires room { 0 < drive.old.room }
+    requires size { lines.now.size ≡ length drive.old.stamps }
+    ensures held { drive.new.held ≡ held_after (Told act.now) step.now lines.now.lists drive.old.held }
+    ensures stamps { drive.new.stamps ≡ stamps_after (Told act.now) drive.old.held drive.old.stamps }
+    ensures size { length drive.new.stamps ≡ length drive.old.stamps }
+    ensures room { drive.old.room ≤ drive.new.room + 1 }
+{
+    match act {
+        Act::Issued { number, .. } => note_taken(drive, lines, *number, step),
+        Act::Done {
+            number,
+            status,
+            error,
+            lba,
+            ..
+        } => drive.finish(*number, is_good(*status, *error, *lba)),
+        _ => {}
+    }
+}
+
+fn note_taken(drive: &mut Drive, lines: &Lines, number: IssueNo, step: &Step)
+    requires room { 0 < drive.old.room }
+    requires size { lines.now.size ≡ length drive.old.stamps }
+    ensures held { drive.new.held ≡ kick_hands step.now number lines.now.lists drive.old.held }
+    ensures stamps { drive.new.stamps ≡ drive.old.stamps }
+    ensures room { drive.old.room ≤ drive.new.room + 1 }
+{
+    if let Step::Kick { place } = step {
+        if place.get() == 0 {
+            if let Some(cmd) = lines.front(*place) {
+                drive.take(number, cmd.op);
+            }
+        }
+    }
+}
+
+/// The finished issues: one that the drive ends well, until its answer.
+pub fn note_finishes(finishes: &mut Finishes, drive: &Drive, act: &Act)
+    requires { 0 < finishes.old.room }
+    ensures finished { finishes.new.finished ≡ finished_after (Told act.now) drive.now.held drive.now.stamps finishes.old.finished }
+    ensures room { finishes.old.room ≤ finishes.new.room + 1 }
+{
+    match act {
+        Act::Done {
+            number,
+            status,
+            error,
+            lba,
+            count,
+        } => {
+            if is_good(*status, *error, *lba) {
+                finishes.push(Finished {
+                    number: *number,
+                    status: *status,
+                    error: *error,
+                    lba: *lba,
+                    count: *count,
+                    stamps: drive.read(*number),
+                });
+            }
+        }
+        Act::AnsweredOk { number, .. } => finishes.remove(*number),
+        _ => {}
+    }
+}
+
+/// Whether an issue ended well.
+fn is_good(status: u8, error: u8, lba: u64) -> bool
+    ensures { result ≡ is_good status error lba }
+{
+    status == 0x40 && error == 0 && lba == 0
+}
