@@ -1,0 +1,3 @@
+mod JournalLemmas
+mod RunLemmas
+pub mod HeadlineLemmas

@@ -1,0 +1,5 @@
+pub mod Headline
+pub mod Journals
+pub mod Refusals
+pub mod Statuses
+pub mod Words
