@@ -19,7 +19,7 @@ fn scripts_are_read_and_others_refused(rt: HostRuntime) -> Result<(), Fail> {
         ("0 0  irq\n", Err(FormError::BadForm)),
         ("0 0 irq \n", Err(FormError::BadForm)),
         ("0 0 kick 00\n", Err(FormError::BadForm)),
-        ("0 0 kick 15\n", Err(FormError::BadForm)),
+        ("0 0 kick 1\n", Err(FormError::BadForm)),
         ("0 0 submit 0 0 flush 5 30000\n", Err(FormError::BadForm)),
         ("0 1 irq\n", Err(FormError::BadForm)),
         ("0 0 boot\n", Err(FormError::BadForm)),
@@ -35,7 +35,7 @@ fn scripts_are_read_and_others_refused(rt: HostRuntime) -> Result<(), Fail> {
 #[test]
 fn the_words_stand_in_their_fields(rt: HostRuntime) -> Result<(), Fail> {
     let text =
-        "atahost 1\nport 0 direct\ndrive 0 0 0 ALPHA S1 4096 32 3 0\n0 0 submit 2 1 verify 96 8 5 30000\n";
+        "atahost 1\nport 0 direct\ndrive 0 0 0 ALPHA S1 4096 32 3 0\n0 0 submit 2 0 verify 96 8 5 30000\n";
     let script = read(rt.alloc(), text.as_bytes())?;
     assert_eq!(rt; script.identity.model.bytes(), b"ALPHA".as_slice());
     assert_eq!(rt; script.identity.serial.bytes(), b"S1".as_slice());
