@@ -3,9 +3,9 @@ use Rattle.hex.specs.Hex.{encode_lower}
 use Rattle.ata_base.specs.declared.op.Op.{Op}
 use Rattle.ata_base.specs.declared.op.Op.TheVariants.{Read, Write, Verify, Flush, Power}
 use Rattle.ata_trace.specs.declared.act.Act.{Act}
-use Rattle.ata_trace.specs.declared.act.Act.TheVariants.{Accepted, Refused, Issued, Deferred, Done, Raised, AnsweredOk, Identified, Attached, Mode, Nothing}
+use Rattle.ata_trace.specs.declared.act.Act.TheVariants.{Accepted, Refused, Issued, Deferred, Done, Raised, AnsweredOk, Frozen, Thawed, Requested, Begun, Ended, Identified, Attached, Mode, Nothing}
 use Rattle.ata_trace.specs.declared.deferral.Deferral.{Deferral}
-use Rattle.ata_trace.specs.declared.deferral.Deferral.TheVariants.{Frozen, Recovering, LinkBusy, PortBusy, NoTag}
+use Rattle.ata_trace.specs.declared.deferral.Deferral.TheVariants.{Frozen as WhileFrozen, Recovering, LinkBusy, PortBusy, NoTag}
 use Rattle.ata_trace.specs.declared.refusal.Refusal.{Refusal}
 use Rattle.ata_trace.specs.declared.refusal.Refusal.TheVariants.{SameId, NoDevice, BadCount, BadRange}
 use Rattle.ata_trace.specs.declared.step.Step.{Step}
@@ -53,7 +53,7 @@ refusal_word BadRange = codes "bad-range"
 
 -- why a command wasn't issued
 abbrev pub deferral_word : Deferral → List ℕ
-deferral_word Frozen = codes "frozen"
+deferral_word WhileFrozen = codes "frozen"
 deferral_word Recovering = codes "recovering"
 deferral_word LinkBusy = codes "link-busy"
 deferral_word PortBusy = codes "port-busy"
@@ -73,6 +73,11 @@ act_words Raised = codes "raised" ∷ []
 act_words (AnsweredOk id number status error lba count stamps) =
     codes "answered" ∷ decimal id ∷ decimal number.n ∷ codes "ok"
     ∷ byte_word status ∷ byte_word error ∷ decimal lba ∷ decimal count ∷ map decimal stamps
+act_words Frozen = codes "frozen" ∷ []
+act_words Thawed = codes "thawed" ∷ []
+act_words Requested = codes "requested" ∷ []
+act_words Begun = codes "begun" ∷ []
+act_words Ended = codes "ended" ∷ []
 act_words (Identified place model serial sectors depth) =
     codes "identified" ∷ decimal place ∷ model ∷ serial ∷ decimal sectors ∷ decimal depth ∷ []
 act_words (Attached place) = codes "attached" ∷ decimal place ∷ []

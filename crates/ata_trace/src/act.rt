@@ -53,6 +53,16 @@ pub enum Act {
         count: u16,
         stamps: Stamps,
     },
+    /// The port was frozen: it issues nothing and serves no interrupt until it is thawed.
+    Frozen,
+    /// The port was thawed.
+    Thawed,
+    /// Recovery was asked for: nothing is issued until it has ended.
+    Requested,
+    /// Recovery began.
+    Begun,
+    /// Recovery ended.
+    Ended,
     /// The device at a place was identified: its size in sectors, and the depth of its queue, 0 to
     /// 32, where 0 says that it has no native command queuing.
     Identified {

@@ -102,6 +102,11 @@ fn lines_of_acts(rt: HostRuntime) {
             "- done 2 41 84 5 255\n",
         ),
         (Act::Raised, "- raised\n"),
+        (Act::Frozen, "- frozen\n"),
+        (Act::Thawed, "- thawed\n"),
+        (Act::Requested, "- requested\n"),
+        (Act::Begun, "- begun\n"),
+        (Act::Ended, "- ended\n"),
         (
             Act::AnsweredOk {
                 id,

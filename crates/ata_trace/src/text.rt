@@ -177,6 +177,11 @@ fn put_act(line: &mut Line, act: &Act)
             put_registers(line, *status, *error, *lba, *count);
             put_numbers(line, stamps.items());
         }
+        Act::Frozen => line.word(b"frozen"),
+        Act::Thawed => line.word(b"thawed"),
+        Act::Requested => line.word(b"requested"),
+        Act::Begun => line.word(b"begun"),
+        Act::Ended => line.word(b"ended"),
         Act::Identified {
             place,
             model,

@@ -53,4 +53,6 @@ fn run(rt: &HostRuntime, words: &[String]) -> Status {
 }
 
 #[cfg(test)]
+mod steps_tests;
+#[cfg(test)]
 mod tests;

@@ -4,6 +4,7 @@ ghost use Rattle.ata_trace.specs.Entries.{past_of};
 ghost use Rattle.port_laws.specs.Links.{AreLinksUnmixed};
 ghost use Rattle.port_laws.specs.Moments.{AtEach};
 ghost use Rattle.port_laws.specs.Once.{IsOnceOrLive};
+ghost use Rattle.port_laws.specs.Silent.{IsSilentWhileFrozen};
 ghost use Rattle.port_laws.specs.Success.{IsDoneWell};
 ghost use Rattle.port_laws.specs.Tags.{IsTagFree};
 ghost use Rattle.port_past.specs.Accepted.{accepted, live};
@@ -82,6 +83,7 @@ impl Port {
         ensures success { AtEach IsDoneWell (past_of self.new.entries) }
         ensures tags { AtEach IsTagFree (past_of self.new.entries) }
         ensures links { AtEach AreLinksUnmixed (past_of self.new.entries) }
+        ensures silence { AtEach IsSilentWhileFrozen (past_of self.new.entries) }
 
         ensures spare { self.new.spare ≡ 0 }
     {

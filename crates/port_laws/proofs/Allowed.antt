@@ -23,8 +23,9 @@ use Rattle.port_past.specs.Slots.{slots, is_queued_frame}
 use Rattle.port_past.specs.Steps.{last_step}
 use Rattle.port_past.specs.declared.finished.Finished.{Finished}
 use Rattle.port_rules.specs.Interrupt.{finish_of}
-use Rattle.port_rules.specs.Kick.{view_of}
+use Rattle.port_rules.specs.Kick.{outline}
 use Rattle.port_laws.specs.Moments.{AtEach}
+use Rattle.port_laws.specs.Silent.{IsOpen}
 
 -- an accepted command was asked for by its step, at place 0; its number is new, and its sectors are
 -- all on the drive
@@ -37,7 +38,7 @@ pub record MayAccept (size id : ℕ) (past : List Event) : Type 0 where
   pub on_drive : is_on_device op size ≡ true
 
 -- an issued command is the front of the kicked queue; the issue has the next number and a free tag,
--- and finds no issue beside which it may not fly
+-- and finds the port neither frozen nor recovering and no issue beside which it may not fly
 pub record MayIssue (id : ℕ) (number : IssueNo) (tag : ℕ) (fis : List ℕ) (past : List Event) : Type 0 where
   pub place : ℕ
   pub front : Cmd
@@ -49,7 +50,8 @@ pub record MayIssue (id : ℕ) (number : IssueNo) (tag : ℕ) (fis : List ℕ) (
   pub within : tag < 32
   pub free : flight_at (slots past) tag ≡ None
   pub kind : is_queued_frame fis ≡ queued
-  pub alone : is_link_busy (view_of (slots past)).slots place queued ≡ false
+  pub alone : is_link_busy (outline (slots past)) place queued ≡ false
+  pub open_gate : IsOpen past
 
 -- an ended issue is held by the drive
 pub record MayEnd (number : IssueNo) (past : List Event) : Type 0 where

@@ -17,11 +17,10 @@ use Rattle.host_tags.specs.Slots.{flight_at, put, released}
 use Rattle.host_tags.specs.declared.in_flight.InFlight.{InFlight}
 use Rattle.port_past.specs.Finished.{finished, without_finished}
 use Rattle.port_past.specs.Issues.{issues}
-use Rattle.port_past.specs.Line.{is_line_up}
 use Rattle.port_past.specs.Slots.{slots, kick_flies, fresh_flight}
 use Rattle.port_past.specs.Steps.{last_step}
 use Rattle.port_past.specs.declared.finished.Finished.{Finished}
-use Rattle.port_rules.specs.Interrupt.{finish_of, answer_of, answers, or_nothing, irq_acts}
+use Rattle.port_rules.specs.Interrupt.{finish_of, answer_of, answers, or_nothing, is_served, irq_acts}
 use Rattle.port_laws.proofs.Allowed.{MayIssue, MayAnswer, IsAllowed, AreAllowed}
 
 -- the issues in flight have numbers of their own, none above the last
@@ -181,9 +180,9 @@ nothing_allowed size past [] allowed = (tt, tt)
 nothing_allowed size past (act ∷ rest) allowed = allowed
 
 irq_by :
-    (size : ℕ) (past : List Event) (time : ℕ) (who : Who) (seq : ℕ) (up : Bool) → AreApart (slots past)
+    (size : ℕ) (past : List Event) (time : ℕ) (who : Who) (seq : ℕ) (served : Bool) → AreApart (slots past)
     → AreAllowed size (Began time who seq Irq ∷ past)
-    (if up then or_nothing (answers (slots past) (finished size past)) else Nothing ∷ [])
+    (if served then or_nothing (answers (slots past) (finished size past)) else Nothing ∷ [])
 irq_by size past time who seq true apart =
     nothing_allowed size _ _ (answers_allowed size 0 (slots past) (finished size past) (Began time who seq Irq ∷ past) apart refl refl)
 irq_by size past time who seq false apart = (tt, tt)
@@ -192,4 +191,4 @@ pub irq_allowed :
     (size : ℕ) (past : List Event) → IsAllowed size past → (time : ℕ) (who : Who) (seq : ℕ)
     → AreAllowed size (Began time who seq Irq ∷ past) (irq_acts size past)
 irq_allowed size past h time who seq =
-    irq_by size past time who seq (is_line_up past) (are_numbered size past h).apart
+    irq_by size past time who seq (is_served past) (are_numbered size past h).apart

@@ -5,6 +5,7 @@ pub mod Known
 pub mod Legal
 pub mod Links
 pub mod Once
+pub mod Silent
 pub mod Sizes
 pub mod Stamps
 pub mod Starting

@@ -13,7 +13,7 @@ use Rattle.host_tags.specs.Slots.{flight_at, put, released}
 use Rattle.host_tags.specs.declared.in_flight.InFlight.{InFlight}
 use Rattle.port_past.specs.Slots.{slots, fresh_flight}
 use Rattle.port_rules.specs.Boot.{size_of}
-use Rattle.port_rules.specs.Kick.{place_and_queuing, view_of}
+use Rattle.port_rules.specs.Kick.{place_and_queuing, outline}
 use Rattle.port_rules.specs.Legal.{IsLegal}
 use Rattle.port_laws.specs.Links.{is_at, is_unqueued_at, IsUnmixed, AreLinksUnmixed}
 use Rattle.port_laws.specs.Moments.{AtEach}
@@ -69,7 +69,7 @@ agree_unqueued place (Some f) = refl
 -- beside a queued issue none is unqueued, beside an unqueued one there is none
 link_free :
     (place : ℕ) (queued : Bool) (slots : List (Option InFlight))
-    → is_link_busy (view_of slots).slots place queued ≡ false
+    → is_link_busy (outline slots) place queued ≡ false
     → (queued ≡ true → count_by (is_unqueued_at place) slots ≡ 0) × (queued ≡ false → count_by (is_at place) slots ≡ 0)
 link_free place true slots alone =
     (λ so. unseen (is_seen_unqueued_at place) (is_unqueued_at place) (agree_unqueued place) slots alone, λ so. absurd (cc))
@@ -96,7 +96,7 @@ one_less unqueued all unqueued_after (suc n) less fewer part (inr single) = inr 
 put_unmixed :
     (place x tag : ℕ) (f : InFlight) (queued : Bool) (slots : List (Option InFlight))
     → f.place ≡ x → f.queued ≡ queued → tag < 32 → flight_at slots tag ≡ None → 32 ≤ length slots
-    → is_link_busy (view_of slots).slots x queued ≡ false → IsUnmixed place slots
+    → is_link_busy (outline slots) x queued ≡ false → IsUnmixed place slots
     → IsUnmixed place (put tag f slots)
 put_unmixed place x tag f queued slots there kind within free enough alone was =
     let all = count_slot (is_at place) slots tag (Some f) (omega arith) in

@@ -24,15 +24,17 @@ use Rattle.host_tags.specs.Slots.{free_below}
 use Rattle.port_past.specs.Accepted.{is_accepted}
 use Rattle.port_past.specs.Device.{attached, sectors, depths}
 use Rattle.port_past.specs.Drive.{held, op_of, picked}
+use Rattle.port_past.specs.Gate.{is_frozen, is_recovering}
 use Rattle.port_past.specs.Line.{is_line_up}
 use Rattle.port_past.specs.Queues.{queues}
 use Rattle.port_past.specs.Sectors.{has_count, is_on_device}
 use Rattle.port_past.specs.Slots.{slots, is_queued_frame}
 use Rattle.port_past.specs.declared.held.Held.{Held}
-use Rattle.port_rules.specs.Kick.{is_queued, view_of, tag_limit, tag_named, issued_acts, deferred_or_issued, front_acts, kick_acts}
+use Rattle.port_rules.specs.Kick.{is_queued, outline, tag_limit, tag_named, issued_acts, deferred_or_issued, front_acts, kick_acts}
 use Rattle.port_rules.specs.Reasons.{first_reason}
 use Rattle.port_rules.specs.Submit.{refused_or_accepted, submit_acts}
 use Rattle.port_rules.specs.Work.{raised_from, work_told, work_acts}
+use Rattle.port_laws.specs.Silent.{IsOpen}
 use Rattle.port_laws.proofs.Allowed.{IsAllowed, AreAllowed}
 use Rattle.port_laws.proofs.Sizes.{attached_home, length_slots}
 
@@ -122,11 +124,11 @@ module _ (size : ℕ) (past : List Event) (h : IsAllowed size past) (time : ℕ)
   issue_allowed :
       (place : ℕ) (front : Cmd) (queued : Bool) (found : Option ℕ)
       → front_of (queues past) place ≡ Some front → is_queued past place front.op ≡ queued
-      → is_link_busy (view_of (slots past)).slots place queued ≡ false
+      → is_link_busy (outline (slots past)) place queued ≡ false → IsOpen past
       → free_below (tag_limit past place queued) (slots past) ≡ found
       → AreAllowed size (Began time who seq (Kick place) ∷ past) (issued_acts past front queued found)
-  issue_allowed place front queued None waiting kind alone free = (tt, tt)
-  issue_allowed place front queued (Some tag) waiting kind alone free =
+  issue_allowed place front queued None waiting kind alone open_gate free = (tt, tt)
+  issue_allowed place front queued (Some tag) waiting kind alone open_gate free =
       let limit = tag_limit past place queued in
       let below = (position-Some is_none (take limit (slots past)) tag None free).0 in (
         record {
@@ -141,23 +143,27 @@ module _ (size : ℕ) (past : List Event) (h : IsAllowed size past) (time : ℕ)
           free = free_below_free limit tag (slots past) free;
           kind = frame_tells front.op queued tag (queued_data _ _ queued kind);
           alone = alone;
+          open_gate = record { thawed = open_gate.thawed; settled = open_gate.settled };
         },
         tt,
       )
 
   kick_by :
-      (place : ℕ) (front : Cmd) (queued busy full : Bool)
+      (place : ℕ) (front : Cmd) (queued frozen recovering busy full : Bool)
       → front_of (queues past) place ≡ Some front → is_queued past place front.op ≡ queued
-      → is_link_busy (view_of (slots past)).slots place queued ≡ busy
+      → is_frozen past ≡ frozen → is_recovering past ≡ recovering
+      → is_link_busy (outline (slots past)) place queued ≡ busy
       → AreAllowed size (Began time who seq (Kick place) ∷ past)
       (deferred_or_issued past place front queued
       (option_map (λ (reason : Defer × Bool). reason.0)
       (find (λ (reason : Defer × Bool). reason.1)
-      ((Frozen, false) ∷ (Recovering, false) ∷ (LinkBusy, busy) ∷ (PortBusy, false) ∷ (NoTag, full) ∷ []))))
-  kick_by place front queued true full waiting kind alone = (tt, tt)
-  kick_by place front queued false true waiting kind alone = (tt, tt)
-  kick_by place front queued false false waiting kind alone =
-      issue_allowed place front queued _ waiting kind alone refl
+      ((Frozen, frozen) ∷ (Recovering, recovering) ∷ (LinkBusy, busy) ∷ (PortBusy, false) ∷ (NoTag, full) ∷ []))))
+  kick_by place front queued true recovering busy full waiting kind thawed settled alone = (tt, tt)
+  kick_by place front queued false true busy full waiting kind thawed settled alone = (tt, tt)
+  kick_by place front queued false false true full waiting kind thawed settled alone = (tt, tt)
+  kick_by place front queued false false false true waiting kind thawed settled alone = (tt, tt)
+  kick_by place front queued false false false false waiting kind thawed settled alone =
+      issue_allowed place front queued _ waiting kind alone (record { thawed = thawed; settled = settled }) refl
 
   front_allowed :
       (place : ℕ) (front : Option Cmd) → front_of (queues past) place ≡ front
@@ -165,8 +171,8 @@ module _ (size : ℕ) (past : List Event) (h : IsAllowed size past) (time : ℕ)
   front_allowed place None waiting = (tt, tt)
   front_allowed place (Some front) waiting =
       let queued : Bool = is_queued past place front.op in
-      kick_by place front queued _
-      (has_no_tag (view_of (slots past)).slots queued (slice_index (depths past) place)) waiting refl refl
+      kick_by place front queued _ _ _
+      (has_no_tag (outline (slots past)) queued (slice_index (depths past) place)) waiting refl refl refl refl
 
   pub kick_allowed :
       (place : ℕ) → AreAllowed size (Began time who seq (Kick place) ∷ past) (kick_acts past place)

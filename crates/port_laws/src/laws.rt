@@ -5,6 +5,7 @@ ghost use Rattle.port_rules.specs.Legal.{IsLegal};
 ghost use Rattle.port_laws.specs.Links.{AreLinksUnmixed};
 ghost use Rattle.port_laws.specs.Moments.{AtEach};
 ghost use Rattle.port_laws.specs.Once.{IsOnceOrLive};
+ghost use Rattle.port_laws.specs.Silent.{IsSilentWhileFrozen};
 ghost use Rattle.port_laws.specs.Success.{IsDoneWell};
 ghost use Rattle.port_laws.specs.Tags.{IsTagFree};
 
@@ -32,4 +33,10 @@ pub fn issues_take_free_tags()
 #[tactic(auto, using(crate::proofs::Links::links_are_unmixed))]
 pub fn links_stay_unmixed()
     ensures { (head : PortHead) → (journal : List Record) → IsLegal head journal → AtEach AreLinksUnmixed (past_of journal) }
+{}
+
+/// Silent while frozen: nothing is issued while the port is frozen or recovering.
+#[tactic(auto, using(crate::proofs::Silent::silent_while_frozen))]
+pub fn frozen_ports_issue_nothing()
+    ensures { (head : PortHead) → (journal : List Record) → IsLegal head journal → AtEach IsSilentWhileFrozen (past_of journal) }
 {}

@@ -5,5 +5,6 @@
 mod laws;
 
 pub use laws::{
-    commands_are_answered_once, issues_take_free_tags, links_stay_unmixed, successes_are_done_well,
+    commands_are_answered_once, frozen_ports_issue_nothing, issues_take_free_tags,
+    links_stay_unmixed, successes_are_done_well,
 };

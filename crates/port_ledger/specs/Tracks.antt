@@ -7,6 +7,7 @@ use Rattle.port_past.specs.Clock.{clock}
 use Rattle.port_past.specs.Device.{attached, sectors, depths, ncq, attachments}
 use Rattle.port_past.specs.Drive.{held, stamps}
 use Rattle.port_past.specs.Finished.{finished}
+use Rattle.port_past.specs.Gate.{is_frozen, is_asked, is_running}
 use Rattle.port_past.specs.Issues.{issues}
 use Rattle.port_past.specs.Line.{is_line_up}
 use Rattle.port_past.specs.Queues.{queues}
@@ -23,6 +24,9 @@ pub record Tracks (l : Inside) : Type 0 where
   pub step : l.step ≡ last_step (the_past l)
   pub clock : l.clock ≡ clock (the_past l)
   pub line : l.line ≡ is_line_up (the_past l)
+  pub frozen : l.gate.frozen ≡ is_frozen (the_past l)
+  pub asked : l.gate.asked ≡ is_asked (the_past l)
+  pub running : l.gate.running ≡ is_running (the_past l)
   pub issues : l.issues ≡ issues (the_past l)
   pub attachments : l.attachments ≡ attachments (the_past l)
   pub attached : l.devices.attached ≡ attached (the_past l)

@@ -10,6 +10,7 @@ ghost use Rattle.port_past.specs.Clock.{clock};
 ghost use Rattle.port_past.specs.Device.{attached, sectors, depths, ncq};
 ghost use Rattle.port_past.specs.Drive.{held, picked};
 ghost use Rattle.port_past.specs.Finished.{finished};
+ghost use Rattle.port_past.specs.Gate.{is_frozen, is_recovering};
 ghost use Rattle.port_past.specs.Issues.{issues};
 ghost use Rattle.port_past.specs.Line.{is_line_up};
 ghost use Rattle.port_past.specs.Queues.{queues};
@@ -26,6 +27,7 @@ use crate::notes;
 use crate::roll::Roll;
 use ata_base::{Cmd, CmdId, IssueNo, Ms, OutOfMemory, Pick, Place};
 use ata_trace::{Act, Journal, Step, Who};
+use host_freeze::Gatekeeper;
 use host_tags::Slots;
 use port_past::{Finished, Held};
 use std::alloc::Global;
@@ -51,6 +53,7 @@ pub struct Ledger {
     step: Step,
     clock: u64,
     line: bool,
+    gate: Gatekeeper,
     issues: u64,
     attachments: u64,
     devices: Devices,
@@ -98,6 +101,7 @@ impl Ledger {
             step: Step::Boot,
             clock: 0,
             line: false,
+            gate: Gatekeeper::new(),
             issues: 0,
             attachments: 0,
             devices: Devices {
@@ -146,7 +150,7 @@ impl Ledger {
         ensures { Goes self.old self.new 0 (Began (clock (past_of self.old.entries)) who seq step.now ∷ past_of self.old.entries) }
     {
         self.journal.begin(Ms { n: self.clock }, who, seq, *step);
-        self.line = notes::line_at(step, self.line);
+        self.line = notes::line_at(step, self.gate.frozen(), self.line);
         self.step = *step;
         self.begins -= 1;
     }
@@ -167,6 +171,7 @@ impl Ledger {
         self.issues = notes::issues_after(&act, self.issues);
         self.attachments = notes::attachments_after(&act, self.attachments);
         self.line = notes::line_after(&act, self.line);
+        notes::note_gate(&mut self.gate, &act);
         self.journal.add(act);
         self.room -= 1;
     }
@@ -191,6 +196,20 @@ impl Ledger {
         ensures { result ≡ is_line_up (past_of self.now.entries) }
     {
         self.line
+    }
+
+    /// Whether the port is frozen.
+    pub fn is_frozen(&self) -> bool
+        ensures { result ≡ is_frozen (past_of self.now.entries) }
+    {
+        self.gate.frozen()
+    }
+
+    /// Whether recovery is asked for or runs.
+    pub fn is_recovering(&self) -> bool
+        ensures { result ≡ is_recovering (past_of self.now.entries) }
+    {
+        self.gate.recovering()
     }
 
     /// How many issues there were.

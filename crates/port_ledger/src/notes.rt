@@ -1,9 +1,10 @@
-ghost use Rattle.std.specs.Prelude.{◌≡◌, ◌+◌, ◌<◌, ◌≤◌, ◌^◌, length};
+ghost use Rattle.std.specs.Prelude.{◌≡◌, ◌+◌, ◌<◌, ◌≤◌, ◌^◌, Bool, length};
 ghost use Rattle.ata_trace.specs.Event.Event.{Told};
 ghost use Rattle.port_past.specs.Accepted.{accepted_after, live_after};
 ghost use Rattle.port_past.specs.Device.{attachments_after};
 ghost use Rattle.port_past.specs.Drive.{is_good, held_after, stamps_after, kick_hands};
 ghost use Rattle.port_past.specs.Finished.{finished_after};
+ghost use Rattle.port_past.specs.Gate.{frozen_after, asked_after, running_after};
 ghost use Rattle.port_past.specs.Issues.{issues_after};
 ghost use Rattle.port_past.specs.Line.{line_after, line_begun};
 ghost use Rattle.port_past.specs.Queues.{queues_after, submit_joins, kick_serves};
@@ -17,28 +18,52 @@ use crate::roll::Roll;
 use ata_base::{Cmd, CmdId, ErrMask, IssueNo, Ms, Place};
 use ata_trace::{Act, Step};
 use bitflags::Flags;
+use host_freeze::Gatekeeper;
 use host_tags::{InFlight, Slots};
 use port_past::Finished;
 
 // One function for each part that an act can change: what the part is after the act.
 
-/// The interrupt line when a step begins.
-pub fn line_at(step: &Step, was: bool) -> bool
-    ensures { result ≡ line_begun step.now was }
+/// The interrupt line when a step begins, at a port that is frozen or not.
+pub fn line_at(step: &Step, frozen: bool, was: bool) -> bool
+    ensures { result ≡ line_begun step.now frozen was }
 {
     match step {
-        Step::Irq => false,
+        Step::Irq => frozen && was,
         _ => was,
     }
 }
 
 /// The interrupt line after an act.
 pub fn line_after(act: &Act, was: bool) -> bool
-    ensures { result ≡ line_after (Told act.now) was }
+    ensures { (frozen : Bool) → result ≡ line_after (Told act.now) frozen was }
 {
     match act {
         Act::Raised => true,
         _ => was,
+    }
+}
+
+/// The gate: the port is frozen until it is thawed; recovery is asked for until it begins, and runs
+/// until it ends.
+pub fn note_gate(gate: &mut Gatekeeper, act: &Act)
+    ensures frozen { gate.new.frozen ≡ frozen_after (Told act.now) gate.old.frozen }
+    ensures asked { gate.new.asked ≡ asked_after (Told act.now) gate.old.asked }
+    ensures running { gate.new.running ≡ running_after (Told act.now) gate.old.running }
+{
+    match act {
+        Act::Frozen => {
+            gate.freeze();
+        }
+        Act::Thawed => {
+            gate.thaw();
+        }
+        Act::Requested => {
+            gate.request();
+        }
+        Act::Begun => gate.begin(),
+        Act::Ended => gate.end(),
+        _ => {}
     }
 }
 

@@ -3,6 +3,7 @@ pub mod Clock
 pub mod Device
 pub mod Drive
 pub mod Finished
+pub mod Gate
 pub mod Issues
 pub mod Line
 pub mod Queues

@@ -1,4 +1,4 @@
-use Rattle.std.specs.Prelude.{ℕ, ◌==◌, List, [], ◌∷◌, ◌++◌, Option, Some, None, if◌then◌else◌}
+use Rattle.std.specs.Prelude.{ℕ, ◌==◌, Bool, not, ◌&&◌, List, [], ◌∷◌, ◌++◌, Option, Some, None, if◌then◌else◌}
 use Rattle.std.specs.List.{find}
 use Rattle.ata_base.specs.declared.issue_no.IssueNo.{IssueNo}
 use Rattle.ata_trace.specs.Event.{Event}
@@ -7,6 +7,7 @@ use Rattle.ata_trace.specs.declared.act.Act.TheVariants.{AnsweredOk, Nothing}
 use Rattle.host_tags.specs.declared.in_flight.InFlight.{InFlight}
 use Rattle.port_past.specs.declared.finished.Finished.{Finished}
 use Rattle.port_past.specs.Finished.{finished, without_finished}
+use Rattle.port_past.specs.Gate.{is_frozen}
 use Rattle.port_past.specs.Line.{is_line_up}
 use Rattle.port_past.specs.Slots.{slots}
 
@@ -31,6 +32,10 @@ abbrev pub or_nothing : List Act → List Act
 or_nothing [] = Nothing ∷ []
 or_nothing (act ∷ rest) = act ∷ rest
 
--- the acts of an interrupt: with the line down, nothing
+-- whether an interrupt is served: the port isn't frozen and the line is up
+abbrev pub is_served : List Event → Bool
+is_served past = not (is_frozen past) && is_line_up past
+
+-- the acts of an interrupt: where it isn't served, nothing
 abbrev pub irq_acts : ℕ → List Event → List Act
-irq_acts size past = if is_line_up past then or_nothing (answers (slots past) (finished size past)) else Nothing ∷ []
+irq_acts size past = if is_served past then or_nothing (answers (slots past) (finished size past)) else Nothing ∷ []

@@ -17,6 +17,7 @@ use Rattle.host_tags.specs.declared.in_flight.InFlight.{InFlight}
 use Rattle.host_tags.specs.Slots.{free_below}
 use Rattle.port_past.specs.Clock.{clock}
 use Rattle.port_past.specs.Device.{depths, ncq}
+use Rattle.port_past.specs.Gate.{is_frozen, is_recovering}
 use Rattle.port_past.specs.Issues.{issues}
 use Rattle.port_past.specs.Queues.{queues}
 use Rattle.port_past.specs.Slots.{slots}
@@ -33,18 +34,22 @@ deferral_told NoTag = told.TheVariants.NoTag
 abbrev pub is_queued : List Event → ℕ → Op → Bool
 is_queued past place op = is_data op && slice_index_or (ncq past) place false
 
--- what a deferral goes by: a direct port, no act that is built freezes it or asks for recovery, and
--- the place and the queuing of each issue in flight
+-- the place of an issue, and whether it is queued
 abbrev pub place_and_queuing : InFlight → ℕ × Bool
 place_and_queuing flight = (flight.place, flight.queued)
 
-abbrev pub view_of : List (Option InFlight) → View
-view_of slots = record {
-  frozen = false;
-  recovering = false;
+-- the place and the queuing of each issue in flight, by tag
+abbrev pub outline : List (Option InFlight) → List (Option (ℕ × Bool))
+outline slots = map (option_map place_and_queuing) slots
+
+-- what a deferral goes by at a direct port: whether it is frozen or recovering, and what is in flight
+abbrev pub view_of : List Event → View
+view_of past = record {
+  frozen = is_frozen past;
+  recovering = is_recovering past;
   pmp = false;
   exclusive = None;
-  slots = map (option_map place_and_queuing) slots;
+  slots = outline (slots past);
 }
 
 -- a queued command has a tag below the depth of its device, an unqueued one may have any
@@ -75,7 +80,7 @@ front_acts past place None = Nothing ∷ []
 front_acts past place (Some cmd) =
     let queued : Bool = is_queued past place cmd.op in
     deferred_or_issued past place cmd queued
-    (deferral_of (view_of (slots past)) place queued (slice_index (depths past) place))
+    (deferral_of (view_of past) place queued (slice_index (depths past) place))
 
 -- the acts of a kick step: with an empty queue, nothing
 abbrev pub kick_acts : List Event → ℕ → List Act

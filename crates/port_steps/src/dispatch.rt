@@ -16,14 +16,14 @@ pub fn act(ledger: &mut Ledger, who: Who, seq: u64, step: &Step)
     ensures past { past_of ledger.new.entries ≡ grown (past_of ledger.old.entries) (entry_after ledger.old.size (past_of ledger.old.entries) who seq step.now) }
     ensures size { ledger.new.size ≡ ledger.old.size }
 {
-    // An entry of an interrupt lowers the line as it begins.
-    let up = ledger.is_line_up();
+    // An entry of an interrupt that is served lowers the line as it begins.
+    let served = !ledger.is_frozen() && ledger.is_line_up();
     ledger.begin(who, seq, step);
     match step {
         Step::Submit { id, place, op, .. } => submit(ledger, *id, *place, op),
         Step::Kick { place } => kick(ledger, *place),
         Step::Work { place, pick } => work(ledger, *place, *pick),
-        Step::Irq => irq(ledger, up),
+        Step::Irq => irq(ledger, served),
         Step::Boot => ledger.note(Act::Nothing),
     }
 }

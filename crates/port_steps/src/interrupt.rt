@@ -13,14 +13,15 @@ use ata_trace::Act;
 use host_tags::{InFlight, Slots};
 use port_ledger::Ledger;
 
-/// An interrupt is served. `up` is whether the line was up before the entry began.
-pub fn irq(ledger: &mut Ledger, up: bool)
+/// An interrupt comes. `served` is whether the line was up and the port not frozen before the entry
+/// began.
+pub fn irq(ledger: &mut Ledger, served: bool)
     requires room { 34 ≤ ledger.old.room }
     ensures past { past_of ledger.new.entries ≡ onto (past_of ledger.old.entries)
-        (if up then or_nothing (answers (slots (past_of ledger.old.entries)) (finished ledger.old.size (past_of ledger.old.entries))) else Nothing ∷ []) }
+        (if served then or_nothing (answers (slots (past_of ledger.old.entries)) (finished ledger.old.size (past_of ledger.old.entries))) else Nothing ∷ []) }
     ensures size { ledger.new.size ≡ ledger.old.size }
 {
-    if !up {
+    if !served {
         ledger.note(Act::Nothing);
         return;
     }

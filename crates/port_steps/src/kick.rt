@@ -11,7 +11,6 @@ use ata_base::{Cmd, IssueNo, Ms, Op, Place, Tag};
 use ata_tf::{of_op, to_h2d};
 use ata_trace::{Act, Deferral};
 use host_defer::{Defer, View, may_issue};
-use host_tags::Slots;
 use port_ledger::Ledger;
 
 /// The front command of a place is issued, or deferred for the first reason that holds.
@@ -35,15 +34,15 @@ fn issue_or_defer(ledger: &mut Ledger, place: Place, cmd: &Cmd)
 {
     let queued = cmd.op.is_data() && ledger.is_ncq_on(place);
     let depth = ledger.depth(place);
-    let slots = ledger.slots();
-    match may_issue(&view_of(&slots), place, queued, depth) {
+    match may_issue(&view_of(ledger), place, queued, depth) {
         Err(why) => ledger.note(Act::Deferred {
             id: cmd.id,
             why: deferral_told(why),
         }),
         Ok(()) => {
             let limit = if queued { depth } else { 32 };
-            issue(ledger, cmd, queued, slots.free_below(limit));
+            let tag = ledger.slots().free_below(limit);
+            issue(ledger, cmd, queued, tag);
         }
     }
 }
@@ -88,15 +87,15 @@ fn frame_of(op: &Op, queued: Option<Tag>) -> [u8; 20]
 }
 
 /// What a deferral goes by.
-fn view_of(slots: &Slots) -> View
-    ensures { result ≡ view_of slots.now }
+fn view_of(ledger: &Ledger) -> View
+    ensures { result ≡ view_of (past_of ledger.now.entries) }
 {
     View {
-        frozen: false,
-        recovering: false,
+        frozen: ledger.is_frozen(),
+        recovering: ledger.is_recovering(),
         pmp: false,
         exclusive: None,
-        slots: slots.outline(),
+        slots: ledger.slots().outline(),
     }
 }
 

@@ -1,5 +1,6 @@
 pub mod Acts
 pub mod AnswersInTagOrder
+pub mod BehindTheGate
 pub mod Boots
 pub mod Bytes
 pub mod EveryOperation

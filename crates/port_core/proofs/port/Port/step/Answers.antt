@@ -1,5 +1,6 @@
 use Rattle.port_laws.proofs.Links.{links_are_unmixed}
 use Rattle.port_laws.proofs.Once.{once_or_live}
+use Rattle.port_laws.proofs.Silent.{silent_while_frozen}
 use Rattle.port_laws.proofs.Success.{successes_are_done_well}
 use Rattle.port_laws.proofs.Tags.{tags_are_free}
 use Rattle.port_core.proofs.port.Port.step.Goals as goal
@@ -15,3 +16,6 @@ returns-clause-tags c = tags_are_free c.self.inside.head c.take.new.ledger.entri
 
 pub returns-clause-links : goal.returns-clause-links
 returns-clause-links c = links_are_unmixed c.self.inside.head c.take.new.ledger.entries c.take.ensures.legal
+
+pub returns-clause-silence : goal.returns-clause-silence
+returns-clause-silence c = silent_while_frozen c.self.inside.head c.take.new.ledger.entries c.take.ensures.legal
