@@ -1,0 +1,2 @@
+pub mod Gscr
+pub mod Pscr
