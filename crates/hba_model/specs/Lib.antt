@@ -1,0 +1,4 @@
+pub mod Tags
+pub mod Controller
+pub mod Standing
+pub mod Clearing
