@@ -1,0 +1,9 @@
+pub mod Assigned
+pub mod Frame
+pub mod Holding
+pub mod Inject
+pub mod Log
+pub mod Sectors
+pub mod Standing
+pub mod View
+pub mod Work

@@ -1,0 +1,31 @@
+//! The simulated drive: a stamp for each of its sectors, the issues that it holds, the faults that were put into it,
+//! and how it ends issues, tells its error log and who it is. After `Drive::new` no call takes memory.
+#![tactic(auto)]
+
+mod act;
+mod asked;
+mod assigned;
+mod cause;
+mod counts;
+mod drive;
+mod frame;
+mod held;
+mod holding;
+mod log_fault;
+mod log_page;
+mod outcome;
+mod queued_error;
+mod sectors;
+
+pub use act::DriveAct;
+pub use assigned::{Assigned, Failure};
+pub use cause::Cause;
+pub use counts::Counts;
+pub use drive::Drive;
+pub use held::Held;
+pub use log_fault::LogFault;
+pub use outcome::Outcome;
+pub use queued_error::QueuedError;
+
+#[cfg(test)]
+mod tests;
