@@ -1,3 +1,5 @@
+ghost use Rattle.std.specs.Prelude.{◌≤◌};
+
 use crate::play::play;
 use ata_base::{ActorNo, Allowance, CmdId, Op, Pick, Place, Wait};
 use ata_trace::{Line, Step, Who, act_line};
@@ -31,13 +33,26 @@ fn home() -> Place {
     Place::new(0).unwrap()
 }
 
-fn submit(id: u16, op: Op) -> Step {
+fn submit(id: u16, op: Op) -> Step
+    requires { 1 ≤ id }
+{
     Step::Submit {
         id: CmdId::new(id).unwrap(),
         place: home(),
         op,
         allow: Allowance::new(5).unwrap(),
         wait: Wait::new(30000).unwrap(),
+    }
+}
+
+fn kick() -> Step {
+    Step::Kick { place: home() }
+}
+
+fn work() -> Step {
+    Step::Work {
+        place: home(),
+        pick: Pick::new(0).unwrap(),
     }
 }
 
@@ -50,16 +65,16 @@ fn of_33_reads_32_are_issued(rt: HostRuntime) -> Result<(), Fail> {
         let want = format!(in rt.alloc(); "- accepted {id}\n")?;
         assert_eq!(rt; line.bytes(), want.as_bytes());
     }
-    for tag in 0..32 {
-        let line = told(&rt, &mut port, 0, &Step::Kick { place: home() })?;
+    for tag in 0..32u64 {
+        let line = told(&rt, &mut port, 0, &kick())?;
         let id = tag + 1;
         let want = format!(in rt.alloc();
             "- issued {id} {id} {tag} 30000 278060010000004000000000{:02x}00000000000000\n",
-            8 * tag
+            tag.wrapping_mul(8)
         )?;
         assert_eq!(rt; line.bytes(), want.as_bytes());
     }
-    let line = told(&rt, &mut port, 0, &Step::Kick { place: home() })?;
+    let line = told(&rt, &mut port, 0, &kick())?;
     assert_eq!(rt; line.bytes(), b"- deferred 33 no-tag\n".as_slice());
     assert_eq!(rt; port.live(), 33);
     Ok(())
@@ -67,11 +82,6 @@ fn of_33_reads_32_are_issued(rt: HostRuntime) -> Result<(), Fail> {
 
 #[test]
 fn a_flush_waits_between_queued_writes(rt: HostRuntime) -> Result<(), Fail> {
-    let kick = Step::Kick { place: home() };
-    let work = Step::Work {
-        place: home(),
-        pick: Pick::new(0).unwrap(),
-    };
     let mut port = booted(&rt, rt.alloc())?;
     for (step, want) in [
         (
@@ -98,17 +108,17 @@ fn a_flush_waits_between_queued_writes(rt: HostRuntime) -> Result<(), Fail> {
             "- accepted 3\n",
         ),
         (
-            kick,
+            kick(),
             "- issued 1 1 0 30000 2780610800000040000000000000000000000000\n",
         ),
-        (kick, "- deferred 2 link-busy\n"),
-        (work, "- done 1 40 00 0 0\n"),
+        (kick(), "- deferred 2 link-busy\n"),
+        (work(), "- done 1 40 00 0 0\n"),
         (Step::Irq, "- answered 1 1 ok 40 00 0 0\n"),
         (
-            kick,
+            kick(),
             "- issued 2 2 0 30000 2780ea0000000040000000000000000000000000\n",
         ),
-        (kick, "- deferred 3 link-busy\n"),
+        (kick(), "- deferred 3 link-busy\n"),
     ] {
         let line = told(&rt, &mut port, 0, &step)?;
         assert_eq!(rt; line.bytes(), want.as_bytes());
