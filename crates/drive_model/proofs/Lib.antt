@@ -1,3 +1,4 @@
 pub mod Apart
 pub mod Bits
+pub mod Marked
 pub mod NotQueued

@@ -3,6 +3,7 @@ pub mod Frame
 pub mod Holding
 pub mod Inject
 pub mod Log
+pub mod Marks
 pub mod Sectors
 pub mod Standing
 pub mod View

@@ -13,6 +13,7 @@ mod held;
 mod holding;
 mod log_fault;
 mod log_page;
+mod marks;
 mod outcome;
 mod queued_error;
 mod sectors;

@@ -1,6 +1,7 @@
-ghost use Rattle.std.specs.Prelude.{◌≡◌, ◌+◌, ◌<◌, ◌≤◌, false, length, replicate, position, IfOk, IfSome, if◌then◌else◌};
+ghost use Rattle.std.specs.Prelude.{◌≡◌, ◌+◌, ◌<◌, ◌≤◌, ◌^◌, false, length, replicate, IfOk, IfSome, if◌then◌else◌};
 ghost use Rattle.drive_model.specs.Sectors.{IsFor, stored, healed, stamps_read, least_bad, spoiled};
 
+use crate::marks::Marks;
 use ata_base::{Op, OutOfMemory, Stamps};
 use std::alloc::Global;
 use std::marker::Model;
@@ -9,7 +10,7 @@ use std::marker::Model;
 #[derive(Drop)]
 pub struct Sectors {
     stamps: Vec<u64>,
-    bad: Vec<bool>,
+    bad: Marks,
 }
 
 impl Model for Sectors {
@@ -18,9 +19,9 @@ impl Model for Sectors {
 
     ghost Value = { Plate };
 
-    ghost view = { λ s. record { stamps = s.stamps.items; bad = s.bad.items } };
+    ghost view = { λ s. record { stamps = s.stamps.items; bad = s.bad } };
 
-    ghost invariant = { λ s. length s.bad.items ≡ length s.stamps.items };
+    ghost invariant = { λ s. length s.bad ≡ length s.stamps.items };
 }
 
 impl Sectors {
@@ -30,7 +31,7 @@ impl Sectors {
         ensures bad { IfOk result (λ s. s.bad ≡ replicate count false) }
     {
         let stamps = vec![in alloc; 0; count as usize]?;
-        let bad = vec![in alloc; false; count as usize]?;
+        let bad = Marks::new(alloc, count as usize)?;
         Ok(Sectors { stamps, bad })
     }
 
@@ -40,11 +41,13 @@ impl Sectors {
         ensures value { result ≡ least_bad lba count self.now.bad }
         ensures within { IfSome result (λ bad. bad < lba + count) }
     {
-        let start = lba as usize;
-        match first_true(&self.bad[start..start + count as usize]) {
-            Some(at) => Some(lba + at as u64),
-            None => None,
+        for step in 0..count {
+            let at = lba + step as u64;
+            if self.bad.get(at as usize) {
+                return Some(at);
+            }
         }
+        None
     }
 
     /// The stamps that an operation reads: those of a read's sectors, and none for every other operation.
@@ -80,16 +83,8 @@ impl Sectors {
         ensures stamps { self.new.stamps ≡ self.old.stamps }
         ensures bad { self.new.bad ≡ spoiled lba self.old.bad }
     {
-        self.bad[lba as usize] = true;
+        self.bad.put(lba as usize, true);
     }
-}
-
-/// Where the first mark stands.
-fn first_true(marks: &[bool]) -> Option<usize>
-    ensures value { result ≡ position (λ b. b) marks.now }
-    ensures within { IfSome result (λ at. at < length marks.now) }
-{
-    marks.iter().position(|bad| *bad)
 }
 
 /// These stamps, at most 16.
@@ -117,13 +112,15 @@ fn store(stamps: &mut Vec<u64>, op: &Op)
 }
 
 /// A write makes each of its sectors good.
-fn heal(bad: &mut Vec<bool>, op: &Op)
-    requires { IsFor (length bad.old.items) op.now }
-    ensures items { bad.new.items ≡ healed op.now bad.old.items }
-    ensures size { length bad.new.items ≡ length bad.old.items }
+fn heal(bad: &mut Marks, op: &Op)
+    requires on { IsFor (length bad.old) op.now }
+    requires fits { length bad.old < 2 ^ 64 }
+    ensures marks { bad.new ≡ healed op.now bad.old }
+    ensures size { length bad.new ≡ length bad.old }
 {
     if let Op::Write { lba, count, .. } = *op {
-        let start = lba as usize;
-        bad[start..start + count as usize].fill(false);
+        for sector in 0..count {
+            bad.put((lba + sector as u64) as usize, false);
+        }
     }
 }
