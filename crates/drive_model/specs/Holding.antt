@@ -1,5 +1,5 @@
 -- The issues that a drive holds, in the order of issue.
-use Rattle.std.specs.Prelude.{◌≡◌, ℕ, ◌+◌, ◌%◌, ◌<◌, ◌==◌, nat_eq, Bool, true, false, not, List, [], ◌∷◌, ◌++◌, Option, Some, None, All, length, map, filter, find, slice_get}
+use Rattle.std.specs.Prelude.{◌≡◌, ℕ, ◌%◌, ◌<◌, ◌==◌, nat_eq, Bool, true, false, not, List, [], ◌∷◌, ◌++◌, Option, Some, None, All, length, map, filter, find, slice_get}
 use Rattle.std.specs.List.{list_any}
 use Rattle.ata_base.specs.declared.issue_no.IssueNo.{IssueNo}
 use Rattle.ata_base.specs.declared.op.Op.{Op}

@@ -1,4 +1,4 @@
-use Rattle.std.proofs.Common.{◌≡◌, ◌∙◌, ◌+◌, ◌<◌, false, length, set, ap, arith}
+use Rattle.std.proofs.Common.{◌∙◌, ◌+◌, ◌<◌, false, length, set, ap, arith}
 use Rattle.std.proofs.lemmas.List.{length-set}
 use Rattle.drive_model.specs.Sectors.{AreOn}
 use Rattle.drive_model.proofs.Marked.{heal_more}

@@ -1,4 +1,4 @@
-use Rattle.std.proofs.Common.{◌≡◌, ◌∙◌, ◌-◌, ◌*◌, ◌/◌, ◌%◌, ◌<◌, ◌≤◌, ◌^◌, true, false, length, get_or, set, sym, ap, arith, bit_and, bit_or}
+use Rattle.std.proofs.Common.{◌∙◌, ◌*◌, ◌/◌, ◌%◌, ◌<◌, ◌≤◌, ◌^◌, true, false, length, set, sym, ap, arith, bit_and, bit_or}
 use Rattle.std.specs.Int.{bit_not, w64}
 use Rattle.drive_model.specs.Marks.{marks_of}
 use Rattle.std.proofs.lemmas.List.{get_or_default}

@@ -1,4 +1,4 @@
-use Rattle.std.proofs.Common.{◌≡◌, ◌∙◌, ℕ, ◌+◌, ◌≤◌, Bool, true, false, List, length, get_or, sym, ap, arith}
+use Rattle.std.proofs.Common.{◌≡◌, ◌∙◌, ℕ, ◌+◌, ◌≤◌, Bool, false, List, length, get_or, sym, ap, arith}
 use Rattle.drive_model.specs.Sectors.{Plate}
 use Rattle.drive_model.proofs.Marked.{none_bad, first_bad}
 use Rattle.drive_model.proofs.sectors.Sectors.least_bad.Goals as goal
