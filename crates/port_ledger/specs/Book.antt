@@ -10,8 +10,9 @@ pub record Book : Type 0 where
   pub begins : ℕ
   pub room : ℕ
 
--- a ledger goes on to this past, at the cost of room for so many acts
-pub record Goes (before after : Book) (acts : ℕ) (events : List Event) : Type 0 where
+-- a ledger goes on to this past, at the cost of room for so many entries and acts
+pub record Goes (before after : Book) (entries acts : ℕ) (events : List Event) : Type 0 where
   pub past : past_of after.entries ≡ events
   pub size : after.size ≡ before.size
+  pub begins : before.begins ≤ after.begins + entries
   pub room : before.room ≤ after.room + acts

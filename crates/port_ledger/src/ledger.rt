@@ -147,7 +147,7 @@ impl Ledger {
     /// Begins an entry, at the time by the clock.
     pub fn begin(&mut self, who: Who, seq: u64, step: &Step)
         requires { 0 < self.old.begins }
-        ensures { Goes self.old self.new 0 (Began (clock (past_of self.old.entries)) who seq step.now ∷ past_of self.old.entries) }
+        ensures { Goes self.old self.new 1 0 (Began (clock (past_of self.old.entries)) who seq step.now ∷ past_of self.old.entries) }
     {
         self.journal.begin(Ms { n: self.clock }, who, seq, *step);
         self.line = notes::line_at(step, self.gate.frozen(), self.line);
@@ -159,7 +159,7 @@ impl Ledger {
     pub fn note(&mut self, act: Act)
         requires room { 0 < self.old.room }
         requires sound { IsSound self.old.size (past_of self.old.entries) act }
-        ensures { Goes self.old self.new 1 (Told act ∷ past_of self.old.entries) }
+        ensures { Goes self.old self.new 0 1 (Told act ∷ past_of self.old.entries) }
     {
         // A part that reads another as it was before the act comes before that one.
         notes::note_finishes(&mut self.finishes, &self.drive, &act);
