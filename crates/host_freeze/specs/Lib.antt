@@ -1,1 +1,1 @@
-pub mod Gate
+pub mod GatekeeperView

@@ -13,21 +13,21 @@ pub struct Gatekeeper {
 }
 
 impl Model for Gatekeeper {
-    ghost use Rattle.host_freeze.specs.Gate.{Gate};
+    ghost use Rattle.host_freeze.specs.GatekeeperView.{GatekeeperView};
 
-    ghost Value = { Gate };
+    ghost Value = { GatekeeperView };
 
     ghost view = { λ g. record { frozen = g.frozen; asked = g.asked; running = g.running } };
 
-    ghost inverse = { λ gate. record { frozen = gate.frozen; asked = gate.asked; running = gate.running } };
+    ghost inverse = { λ view. record { frozen = view.frozen; asked = view.asked; running = view.running } };
 }
 
 impl Gatekeeper {
-    ghost use Rattle.host_freeze.specs.Gate.{Gate, first_gate, begun, ended, is_recovering};
+    ghost use Rattle.host_freeze.specs.GatekeeperView.{first_gatekeeper, begun, ended, is_recovering};
 
     /// The port isn't frozen, and recovery is neither asked for nor running.
     pub fn new() -> Gatekeeper
-        ensures { result ≡ first_gate }
+        ensures { result ≡ first_gatekeeper }
     {
         Gatekeeper {
             frozen: false,
@@ -38,7 +38,7 @@ impl Gatekeeper {
 
     /// Freezes the port. False exactly where nothing changed, since it was frozen already.
     pub fn freeze(&mut self) -> bool
-        ensures gate { self.new ≡ record self.old { frozen = true } }
+        ensures view { self.new ≡ record self.old { frozen = true } }
         ensures answer { result ≡ not self.old.frozen }
         ensures unchanged { (result ≡ false) ↔ (self.new ≡ self.old) }
     {
@@ -49,7 +49,7 @@ impl Gatekeeper {
 
     /// Ends the freeze. False exactly where nothing changed, since the port wasn't frozen.
     pub fn thaw(&mut self) -> bool
-        ensures gate { self.new ≡ record self.old { frozen = false } }
+        ensures view { self.new ≡ record self.old { frozen = false } }
         ensures answer { result ≡ self.old.frozen }
         ensures unchanged { (result ≡ false) ↔ (self.new ≡ self.old) }
     {
@@ -60,7 +60,7 @@ impl Gatekeeper {
 
     /// Asks for recovery, also while it runs. False exactly where it was asked for already; then nothing changes.
     pub fn request(&mut self) -> bool
-        ensures gate { self.new ≡ record self.old { asked = true } }
+        ensures view { self.new ≡ record self.old { asked = true } }
         ensures answer { result ≡ not self.old.asked }
         ensures unchanged { (result ≡ false) ↔ (self.new ≡ self.old) }
     {
@@ -114,9 +114,9 @@ impl Gatekeeper {
 }
 
 impl Default for Gatekeeper {
-    ghost use Rattle.host_freeze.specs.Gate.{first_gate};
+    ghost use Rattle.host_freeze.specs.GatekeeperView.{first_gatekeeper};
 
-    ghost is_default = { λ g. g ≡ first_gate };
+    ghost is_default = { λ g. g ≡ first_gatekeeper };
 
     /// As `new`.
     fn default() -> Gatekeeper {

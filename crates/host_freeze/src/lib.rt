@@ -5,6 +5,3 @@
 mod gatekeeper;
 
 pub use gatekeeper::Gatekeeper;
-
-#[cfg(test)]
-mod tests;

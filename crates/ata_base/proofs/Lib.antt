@@ -1,0 +1,4 @@
+pub mod EachLemmas
+pub mod MaskLemmas
+pub mod RegsLemmas
+pub mod Truth
