@@ -1,6 +1,5 @@
 pub mod Pairs
 pub mod Parts
 pub mod ReadBack
-pub mod Seal
 pub mod Texts
 pub mod Words

@@ -8,19 +8,13 @@ use Rattle.byteorder.specs.Endian.{little_number}
 use Rattle.byteorder.specs.Numbers.{little_number-reads_back}
 use Rattle.ata_base.specs.declared.identity.Identity.{Identity}
 use Rattle.ata_lanes.specs.Sum.{byte_sum}
-use Rattle.ata_ident.specs.Build.{FitsPage, blank_words, texts_part, numbers_part, capabilities, sealed, identity_page}
+use Rattle.ata_ident.specs.Build.{FitsPage, blank_words, texts_part, numbers_part, capabilities, identity_page}
 use Rattle.ata_ident.specs.Read.{word_at, has_bit, sectors_in, has_bad_sum, identity_in, reading_of}
 use Rattle.ata_ident.specs.Text.{text_bytes, text_in}
+use Rattle.ata_lanes.proofs.Sealing.{byte_sum-sealed}
 use Rattle.ata_ident.proofs.Parts.{Parts, parts}
 use Rattle.ata_ident.proofs.Texts.{length-text_bytes, text_in-text_bytes}
 use Rattle.ata_ident.proofs.Words.{generation_of-capabilities, depth_of-capabilities, capabilities-fits}
-
-byte_sum-sealed : (xs : List ℕ) → byte_sum (sealed xs) ≡ 0
-byte_sum-sealed xs =
-    let check : ℕ = (256 - byte_sum (xs ++ 165 ∷ [])) % 256 in
-    let whole : sum (xs ++ 165 ∷ check ∷ []) ≡ sum xs + (165 + check) = sum_by-append (λ x. x) xs (165 ∷ check ∷ []) in
-    let front : sum (xs ++ 165 ∷ []) ≡ sum xs + 165 = sum_by-append (λ x. x) xs (165 ∷ []) in
-    omega arith
 
 -- words 47 to 255
 abbrev behind : Identity → ℕ → List ℕ
@@ -77,11 +71,11 @@ same_identity a b m s f n d g u = λ j. record { model = m j; serial = s j; firm
 
 page_parts : (i : Identity) → identity_page i ≡ texts_part i ++ behind i ((256 - byte_sum ((texts_part i ++ numbers_part i) ++ 165 ∷ [])) % 256)
 unfolding identity_page
-page_parts i = append_assoc (texts_part i) (numbers_part i) _
+page_parts i = simp append_assoc
 
 sum_of_page : (i : Identity) → byte_sum (identity_page i) ≡ 0
 unfolding identity_page
-sum_of_page i = byte_sum-sealed (texts_part i ++ numbers_part i)
+sum_of_page i = byte_sum-sealed ((texts_part i ++ numbers_part i) ++ 165 ∷ [])
 
 pub reading_of-identity_page : (i : Identity) → FitsPage i
     → (length i.model ≤ 40) × (length i.serial ≤ 20) × (length i.firmware ≤ 8)

@@ -2,7 +2,7 @@
 use Rattle.std.specs.Prelude.{ℕ, ◌+◌, ◌-◌, ◌*◌, ◌^◌, ◌%◌, ◌<◌, ◌≤◌, ◌==◌, if◌then◌else◌, List, [], ◌∷◌, ◌++◌, replicate, IsTrue}
 use Rattle.byteorder.specs.Endian.{little_bytes}
 use Rattle.ata_base.specs.declared.identity.Identity.{Identity}
-use Rattle.ata_lanes.specs.Sum.{byte_sum}
+use Rattle.ata_lanes.specs.Sum.{sealed}
 use Rattle.ata_ident.specs.Text.{is_plain, text_bytes}
 
 -- a page can hold this identity
@@ -47,10 +47,10 @@ numbers_part i =
     ++ little_bytes 8 i.sectors  -- 100 to 103, number of sectors
     ++ blank_words 151  -- 104 to 254
 
--- the bytes with A5h and then the byte that makes the sum of all 0 modulo 256 (word 255, integrity word)
-abbrev pub sealed : List ℕ → List ℕ
-sealed bytes = bytes ++ 165 ∷ (256 - byte_sum (bytes ++ 165 ∷ [])) % 256 ∷ []
+-- the words with the integrity word behind them (word 255): A5h, and the byte that makes the sum of all 0 modulo 256
+abbrev pub with_integrity : List ℕ → List ℕ
+with_integrity words = sealed (words ++ 165 ∷ [])
 
 -- the page of an identity
 unfoldable pub identity_page : Identity → List ℕ
-identity_page i = sealed (texts_part i ++ numbers_part i)
+identity_page i = with_integrity (texts_part i ++ numbers_part i)

@@ -12,6 +12,3 @@ pub use drive::same;
 pub use error::IdentError;
 pub use page::build;
 pub use reading::read;
-
-#[cfg(test)]
-mod tests;

@@ -1,12 +1,12 @@
 ghost use Rattle.std.specs.Prelude.{◌≡◌, ◌+◌, ◌-◌, ◌*◌, ◌%◌, ◌≤◌, [], ◌++◌, length};
 ghost use Rattle.byteorder.specs.Endian.{little_bytes};
-ghost use Rattle.ata_ident.specs.Build.{blank_words, sealed};
+ghost use Rattle.ata_ident.specs.Build.{blank_words, with_integrity};
 ghost use Rattle.ata_ident.specs.Text.{text_bytes};
 
 use crate::text::swap_pairs;
 use arrayvec::ArrayVec;
 use ata_base::Name;
-use ata_lanes::sum512;
+use ata_lanes::seal;
 use byteorder::{ByteOrder, LittleEndian};
 use std::marker::Model;
 
@@ -86,12 +86,12 @@ impl Writer {
     /// The whole page: the 255 words so far and the integrity word.
     pub fn finish(self) -> [u8; 512]
         requires { length self ≡ 510 }
-        ensures { result ≡ sealed self }
+        ensures { result ≡ with_integrity self }
     {
         let mut page = [0; 512];
         page[..510].copy_from_slice(self.bytes.as_slice());
         page[510] = SIGNATURE;
-        page[511] = 0u8.wrapping_sub(sum512(&page));
+        seal(&mut page);
         page
     }
 

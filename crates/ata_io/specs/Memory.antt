@@ -3,7 +3,7 @@ use Rattle.ata_io.specs.Faults.{one_more}
 
 -- a source in memory: the bytes still to come, the most that a call gives, the number of calls so
 -- far, the numbers of the calls that fail, and the count of faults
-pub record Supply : Type 0 where
+pub record MemSourceView : Type 0 where
   pub left : List ℕ
   pub most : ℕ
   pub calls : ℕ
@@ -12,7 +12,7 @@ pub record Supply : Type 0 where
 
 -- a sink in memory: the bytes written, the room for more, the number of calls so far, the numbers
 -- of the calls that fail, and the count of faults
-pub record Store : Type 0 where
+pub record MemSinkView : Type 0 where
   pub written : List ℕ
   pub room : ℕ
   pub calls : ℕ

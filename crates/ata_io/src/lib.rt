@@ -24,6 +24,3 @@ pub use std_source::StdSource;
 pub use sure_sink::SureSink;
 pub use sure_source::SureSource;
 pub use writing::{WriteFault, put_all};
-
-#[cfg(test)]
-mod tests;

@@ -12,7 +12,7 @@ use std::alloc::Global;
 use std::marker::Model;
 
 /// A sink in memory with room for so many bytes, which takes whole pieces and fails at the calls
-/// that it was told to fail at. A contract sees it as a `Store`.
+/// that it was told to fail at. A contract sees it as a `MemSinkView`.
 #[derive(Drop)]
 pub struct MemSink {
     bytes: Vec<u8>,
@@ -25,9 +25,9 @@ pub struct MemSink {
 impl Model for MemSink {
     ghost use Rattle.std.specs.Prelude.{◌≤◌, ◌+◌};
     ghost use Rattle.std.specs.Vec.{vec_len, vec_capacity};
-    ghost use Rattle.ata_io.specs.Memory.{Store};
+    ghost use Rattle.ata_io.specs.Memory.{MemSinkView};
 
-    ghost Value = { Store };
+    ghost Value = { MemSinkView };
 
     ghost view = { λ s. record {
       written = s.bytes.items;

@@ -10,7 +10,7 @@ use crate::supply::give;
 use std::marker::Model;
 
 /// A source in memory that gives at most `most` bytes a call, and fails at the calls that it was
-/// told to fail at. A contract sees it as a `Supply`.
+/// told to fail at. A contract sees it as a `MemSourceView`.
 #[derive(Drop)]
 pub struct MemSource {
     bytes: Vec<u8>,
@@ -23,9 +23,9 @@ pub struct MemSource {
 
 impl Model for MemSource {
     ghost use Rattle.std.specs.Prelude.{◌≤◌, ◌<◌, drop, length};
-    ghost use Rattle.ata_io.specs.Memory.{Supply};
+    ghost use Rattle.ata_io.specs.Memory.{MemSourceView};
 
-    ghost Value = { Supply };
+    ghost Value = { MemSourceView };
 
     ghost view = { λ s. record {
       left = drop s.at s.bytes.items;

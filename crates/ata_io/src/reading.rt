@@ -1,6 +1,6 @@
 ghost use Rattle.std.specs.Prelude.{◌≡◌, ◌≤◌, ◌<◌, List, ℕ, length, OnOk, IfOk, IfSome, IsErrOf};
 ghost use Rattle.std.specs.Io.KnownBytes.{Consumes, IsAtEnd};
-ghost use Rattle.ata_io.specs.Faults.{Rose};
+ghost use Rattle.ata_io.specs.Reading.{faults_after};
 
 use crate::source::Source;
 use std::alloc::Global;
@@ -25,8 +25,8 @@ const CHUNK: usize = 16384;
 
 /// All bytes of `source` to its end, at most `limit`. `TooLong` comes as soon as more than `limit`
 /// came, `Fault` at the first read that failed, `Memory` where the bytes found no room; then the
-/// bytes that were read are gone from the source. It keeps at most `limit` bytes in a vector, whose
-/// room may be twice that.
+/// bytes that were read are gone from the source. No read that failed is passed over. It keeps at
+/// most `limit` bytes in a vector, whose room may be twice that.
 pub fn read_all<S: Source>(
     alloc: Global,
     source: &mut S,
@@ -37,9 +37,7 @@ pub fn read_all<S: Source>(
     ensures within { IfOk result (λ bytes. length bytes.items ≤ limit) }
     ensures too_long { IsErrOf result ReadError.TooLong
         → IfSome (S.left source.old) (λ left. limit < length left) }
-    ensures fault { IsErrOf result ReadError.Fault
-        → Rose (S.fault_count source.old) (S.fault_count source.new) }
-    ensures count { S.fault_count source.old ≤ S.fault_count source.new }
+    ensures faults { S.fault_count source.new ≡ faults_after result (S.fault_count source.old) }
     ensures gone { (read : List ℕ) × Consumes (S.left source.old) (S.left source.new) read }
 {
     let mut bytes = Vec::new(alloc);

@@ -18,8 +18,8 @@ pub trait Sink {
         ensures { result ≡ fault_count self.now };
 
     /// Takes the first bytes of `piece` and answers how many: at most its length, and at least one
-    /// where it isn't empty. `Failed` comes only where the count of faults rose or stands at its
-    /// last value, and leaves the bytes taken as they were.
+    /// where it isn't empty; then the count of faults stays. With `Failed` the count is one more, or
+    /// stands at its last value, and the bytes taken stay as they were.
     fn write(&mut self, piece: &[u8]) -> Result<usize, Failed>
         ensures bound { WritesAtMost result piece.now }
         ensures some { TakesSome result piece.now }

@@ -23,8 +23,8 @@ pub trait Source {
         ensures { result ≡ fault_count self.now };
 
     /// Moves the next bytes into `buf` and answers how many, at most its length. Zero, for a
-    /// buffer that isn't empty, is the end of input. `Failed` comes only where the count of faults
-    /// rose or stands at its last value, and leaves the bytes still to come as they were.
+    /// buffer that isn't empty, is the end of input. Then the count of faults stays. With `Failed` it
+    /// is one more, or stands at its last value, and the bytes still to come stay as they were.
     fn read(&mut self, buf: &mut [u8]) -> Result<usize, Failed>
         ensures bound { ReadsAtMost result buf.new }
         ensures bytes { ReadConsumes (left self.old) (left self.new) result buf.new }

@@ -13,7 +13,7 @@ use std::marker::Model;
 const BLOCK: usize = 65536;
 
 /// A sink over a writer, as standard output is, which gathers pieces and hands them on in blocks of
-/// 64 KiB; `flush` hands on what waits. A contract sees it as an `Outflow`; of standard output
+/// 64 KiB; `flush` hands on what waits. A contract sees it as a `StdSinkView`; of standard output
 /// nothing is told.
 #[derive(Drop)]
 pub struct StdSink<W: Write + Drop> {
@@ -23,9 +23,9 @@ pub struct StdSink<W: Write + Drop> {
 
 impl<W: Write + Drop> Model for StdSink<W> {
     ghost use Rattle.std.specs.Io.Buffered.{writer_contents, writer_buffer};
-    ghost use Rattle.ata_io.specs.Standard.{Outflow};
+    ghost use Rattle.ata_io.specs.Standard.{StdSinkView};
 
-    ghost Value = { Outflow };
+    ghost Value = { StdSinkView };
 
     ghost view = { λ s. record {
       written = writer_contents W.contents s.inner;
@@ -49,8 +49,8 @@ impl<W: Write + Drop> StdSink<W> {
         }
     }
 
-    /// Hands on what waits. `Failed` comes only where the count of faults rose or stands at its
-    /// last value; what the writer didn't take then waits on.
+    /// Hands on what waits; then the count of faults stays. With `Failed` it is one more, or stands
+    /// at its last value, and what the writer didn't take waits on.
     pub fn flush(&mut self) -> Result<(), Failed>
         ensures ok { OnOk result (self.new.waiting ≡ []) }
         ensures bytes { Keeps self.old.written self.new.written }

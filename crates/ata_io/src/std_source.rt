@@ -10,7 +10,7 @@ use std::marker::Model;
 const BLOCK: usize = 65536;
 
 /// A source over a reader, as standard input is, which is read in blocks of 64 KiB. A contract sees
-/// it as an `Inflow`; of standard input nothing is told.
+/// it as a `StdSourceView`; of standard input nothing is told.
 #[derive(Drop)]
 pub struct StdSource<R: Read + Drop> {
     inner: BufReader<R>,
@@ -19,9 +19,9 @@ pub struct StdSource<R: Read + Drop> {
 
 impl<R: Read + Drop> Model for StdSource<R> {
     ghost use Rattle.std.specs.Io.Buffered.{reader_remaining};
-    ghost use Rattle.ata_io.specs.Standard.{Inflow};
+    ghost use Rattle.ata_io.specs.Standard.{StdSourceView};
 
-    ghost Value = { Inflow };
+    ghost Value = { StdSourceView };
 
     ghost view = { λ s. record { left = reader_remaining R.remaining s.inner; faults = s.faults } };
 }

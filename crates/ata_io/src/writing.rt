@@ -1,6 +1,4 @@
-ghost use Rattle.std.specs.Prelude.{◌≤◌, ℕ, length, take, OnOk, OnErr};
-ghost use Rattle.std.specs.Io.KnownBytes.{Appends};
-ghost use Rattle.ata_io.specs.Faults.{Rose};
+ghost use Rattle.ata_io.specs.Writing.{Writes};
 
 use crate::sink::Sink;
 use thiserror::Error;
@@ -10,14 +8,10 @@ use thiserror::Error;
 #[error("WriteFault")]
 pub struct WriteFault;
 
-/// Appends the whole `piece` to `sink`. `WriteFault` comes only where a write failed; then a prefix
-/// of the piece was appended. Takes no memory.
+/// Appends the whole `piece` to `sink`, and no write failed; or `WriteFault` at the first write that
+/// failed, and a prefix of the piece was appended. Takes no memory.
 pub fn put_all<K: Sink>(sink: &mut K, piece: &[u8]) -> Result<(), WriteFault>
-    ensures ok { OnOk result (Appends (K.written sink.old) (K.written sink.new) piece.now) }
-    ensures fault { OnErr result (Rose (K.fault_count sink.old) (K.fault_count sink.new)) }
-    ensures count { K.fault_count sink.old ≤ K.fault_count sink.new }
-    ensures part { OnErr result ((n : ℕ) × (n ≤ length piece.now)
-        × Appends (K.written sink.old) (K.written sink.new) (take n piece.now)) }
+    ensures { Writes K.written K.fault_count sink.old sink.new result piece.now }
 {
     let mut at = 0;
     while at < piece.len() {

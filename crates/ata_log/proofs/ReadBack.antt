@@ -1,14 +1,15 @@
 -- What `build` writes is read back.
-use Rattle.std.proofs.Common.{◌≡◌, ℕ, ◌+◌, ◌*◌, ◌/◌, ◌%◌, ◌^◌, ◌<◌, ◌==◌, true, false, not, nat_le, List, [], ◌∷◌, ◌++◌, take, drop, refl, ap, arith, sym, ◌∙◌}
+use Rattle.std.proofs.Common.{◌≡◌, ℕ, ◌+◌, ◌*◌, ◌/◌, ◌%◌, ◌^◌, ◌<◌, ◌==◌, true, false, nat_le, List, [], ◌++◌, refl, ap, arith, ◌∙◌}
 use Rattle.std.specs.Prelude.{slice_index, slice_range, Ok}
 use Rattle.std.proofs.lemmas.Bool.Decides.{nat_tests}
 use Rattle.byteorder.specs.Endian.{little_number}
 use Rattle.byteorder.specs.Numbers.{little_number-reads_back}
 use Rattle.ata_base.specs.declared.regs.Regs.{Regs}
+use Rattle.ata_base.proofs.RegsLemmas.{same_regs}
 use Rattle.ata_lanes.specs.Sum.{byte_sum}
 use Rattle.ata_log.specs.Page.{head_bytes, blank_bytes, log_page}
 use Rattle.ata_log.specs.Read.{tag_in, regs_in, reading_of}
-use Rattle.ata_log.proofs.Seal.{byte_sum-sealed}
+use Rattle.ata_lanes.proofs.Sealing.{byte_sum-sealed}
 
 -- a page of these facts is read as the tag and the registers in it
 read_from : (page : List ℕ) → byte_sum page ≡ 0 → slice_index page 0 < 32 → reading_of page ≡ Ok (tag_in page, regs_in page)
@@ -16,9 +17,6 @@ read_from page sum queued =
     let good : (byte_sum page == 0) ≡ true = ap (λ n. n == 0) sum in
     let queue : nat_le 128 (slice_index page 0) ≡ false = grind (arith, nat_tests) in
     rw (good, queue) refl
-
-same_regs : (a b : Regs) → a.status ≡ b.status → a.error ≡ b.error → a.lba ≡ b.lba → a.device ≡ b.device → a.count ≡ b.count → a ≡ b
-same_regs a b s e l d c = λ j. record { status = s j; error = e j; lba = l j; device = d j; count = c j }
 
 same_pair : (t u : ℕ) (a b : Regs) → t ≡ u → a ≡ b → ◌≡◌ {A = ℕ × Regs} (t, a) (u, b)
 same_pair t u a b e f = λ j. (e j, f j)

@@ -1,8 +1,8 @@
 -- The NCQ Command Error log page of a failed queued command (ACS-3, NCQ Command Error log, log address 10h).
-use Rattle.std.specs.Prelude.{ℕ, ◌-◌, ◌/◌, ◌%◌, ◌^◌, List, [], ◌∷◌, ◌++◌, replicate}
+use Rattle.std.specs.Prelude.{ℕ, ◌/◌, ◌%◌, ◌^◌, List, [], ◌∷◌, ◌++◌, replicate}
 use Rattle.byteorder.specs.Endian.{little_bytes}
 use Rattle.ata_base.specs.declared.regs.Regs.{Regs}
-use Rattle.ata_lanes.specs.Sum.{byte_sum}
+use Rattle.ata_lanes.specs.Sum.{sealed}
 
 -- bytes 0 to 13: the tag and the registers, each number with its low byte first
 abbrev pub head_bytes : ℕ → Regs → List ℕ
@@ -18,10 +18,6 @@ head_bytes tag r =
 -- bytes 14 to 510 are 0
 unfoldable pub blank_bytes : List ℕ
 blank_bytes = replicate 497 0
-
--- the bytes with the one behind them that makes the sum of all 0 modulo 256
-abbrev pub sealed : List ℕ → List ℕ
-sealed bytes = bytes ++ (256 - byte_sum bytes) % 256 ∷ []
 
 -- the page of a tag and registers
 abbrev pub log_page : ℕ → Regs → List ℕ

@@ -9,6 +9,3 @@ mod reading;
 pub use error::LogError;
 pub use page::build;
 pub use reading::read;
-
-#[cfg(test)]
-mod tests;

@@ -3,7 +3,7 @@ ghost use Rattle.ata_log.specs.Page.{head_bytes, log_page};
 ghost use Rattle.ata_log.specs.Read.{reading_of};
 
 use ata_base::{Regs, Tag};
-use ata_lanes::sum512;
+use ata_lanes::seal;
 use byteorder::{ByteOrder, LittleEndian};
 
 /// The page of the queued command with this tag, which ended with these registers (ACS-3, NCQ Command Error log):
@@ -17,7 +17,7 @@ pub fn build(tag: Tag, r: &Regs) -> [u8; 512]
     let front = head(tag, r);
     let mut page = [0; 512];
     page[..14].copy_from_slice(&front);
-    page[511] = 0u8.wrapping_sub(sum512(&page));
+    seal(&mut page);
     page
 }
 

@@ -35,10 +35,7 @@ pub fn read(p: &[u8; 512]) -> Result<(Tag, Regs), LogError>
 fn tag(p: &[u8; 512]) -> Tag
     ensures { result ≡ tag_in p.now }
 {
-    match Tag::new(p[0] % 32) {
-        Some(tag) => tag,
-        None => unreachable!(),
-    }
+    Tag::at(p[0] % 32)
 }
 
 fn lba(p: &[u8; 512]) -> u64

@@ -1,5 +1,6 @@
 use Rattle.std.proofs.Common.{◌≡◌, ℕ, arith}
 use Rattle.ata_base.specs.declared.regs.Regs.{Regs}
+use Rattle.ata_base.proofs.RegsLemmas.{same_regs}
 use Rattle.ata_tf.specs.declared.taskfile.Taskfile.{Taskfile}
 use Rattle.ata_tf.specs.HostToDevice.{h2d_frame, FitsH2d}
 use Rattle.ata_tf.specs.DeviceToHost.{d2h_frame, FitsD2h}
@@ -22,11 +23,6 @@ h2d_frame-injective t u p q a b e = (
       (same_u16 _ _ a.count b.count (cc) (cc)) (cc),
   grind arith,
 )
-
-same_regs :
-    (r s : Regs) → r.status ≡ s.status → r.error ≡ s.error → r.lba ≡ s.lba → r.device ≡ s.device
-    → r.count ≡ s.count → r ≡ s
-same_regs r s a b c d e = λ i. record { status = a i; error = b i; lba = c i; device = d i; count = e i }
 
 -- a frame of registers is that of one set of registers and one port alone
 pub d2h_frame-injective :

@@ -2,4 +2,4 @@ pub mod Bytes
 pub mod HostToDevice
 pub mod DeviceToHost
 pub mod SetDeviceBits
-pub mod Commands
+pub mod CommandCodes

@@ -6,5 +6,5 @@ pub loop-at-preserved : goal.loop-at-preserved
 loop-at-preserved g c = record {
   within = grind (arith, c.in-Ok.ensures.bound);
   appends = wrote_more _ _ _ _ _ _ c.loop-at.invariant.appends c.in-Ok.ensures.bytes;
-  kept = omega (arith, c.in-Ok.ensures.cause.kept);
+  kept = omega (arith, c.in-Ok.ensures.cause.ok);
 }

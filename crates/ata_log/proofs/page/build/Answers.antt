@@ -1,14 +1,21 @@
-use Rattle.std.proofs.Common.{◌≡◌, ap, refl, ◌∙◌}
-use Rattle.ata_log.specs.Page.{head_bytes}
+use Rattle.std.proofs.Common.{◌≡◌, ℕ, ◌++◌, take, replicate, ap, refl, ◌∙◌}
+use Rattle.ata_base.specs.declared.regs.Regs.{Regs}
+use Rattle.ata_lanes.specs.Sum.{sealed}
+use Rattle.ata_log.specs.Page.{head_bytes, blank_bytes}
 use Rattle.ata_log.specs.Read.{reading_of}
 use Rattle.ata_log.proofs.ReadBack.{reading_of-log_page}
-use Rattle.ata_log.proofs.Seal.{sealed_by_set}
 use Rattle.ata_log.proofs.page.build.Goals as goal
+
+-- what stands before the last byte
+unsealed : (tag : ℕ) (r : Regs) → take 511 (head_bytes tag r ++ replicate 498 0) ≡ head_bytes tag r ++ blank_bytes
+unfolding blank_bytes
+unsealed tag r = refl
 
 page_is : goal.returns-clause-page
 page_is c =
-    sealed_by_set (head_bytes c.args.tag c.args.r.now) c.copy_from_slice.new.self c.sum512.result
-    (c.copy_from_slice.ensures.after ∙ c.head-front.ensures.value) refl c.sum512.ensures
+    c.seal.ensures.page
+    ∙ ap (λ front. sealed (take 511 (front ++ replicate 498 0))) (c.copy_from_slice.ensures.after ∙ c.head-front.ensures.value)
+    ∙ ap sealed (unsealed c.args.tag c.args.r.now)
 
 pub returns-clause-page : goal.returns-clause-page
 returns-clause-page c = page_is c
