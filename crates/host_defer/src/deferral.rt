@@ -3,55 +3,61 @@ ghost use Rattle.std.specs.List.{list_any};
 ghost use Rattle.host_tags.specs.Slots.{free_below};
 ghost use Rattle.host_defer.specs.Obstacles.{deferral_of, is_at, is_unqueued_at, is_elsewhere, is_link_busy, is_port_busy, has_no_tag, is_taken};
 
-use crate::defer::Defer;
 use crate::view::View;
-use ata_base::Place;
+use ata_base::{Deferral, Place, TAG_COUNT};
 
-/// Whether a command of place `x` may be issued now, queued or not: `Ok` exactly where nothing defers
-/// it, else the first of the reasons that hold, in the order of `Defer`. A queued command's tag has to
-/// be below `limit`, the depth of its device; an unqueued one may have any.
-pub fn may_issue(v: &View, x: Place, queued: bool, limit: u8) -> Result<(), Defer>
-    ensures { MatchResult result (λ _. deferral_of v.now x queued limit ≡ None) (λ why. deferral_of v.now x queued limit ≡ Some why) }
+/// Whether a command of a place may be issued now, queued or not: `Ok` exactly where nothing defers it, else
+/// the first of the reasons that hold, in the order of `Deferral`. A queued command's tag has to be below
+/// `limit`, the depth of its device; an unqueued one may have any. Another place has the port on a
+/// multiplier without FIS-based switching alone.
+pub fn may_issue(view: &View, place: Place, queued: bool, limit: u8) -> Result<(), Deferral>
+    ensures { MatchResult result
+        (λ _. deferral_of view.now place queued limit ≡ None)
+        (λ why. deferral_of view.now place queued limit ≡ Some why) }
 {
-    if v.frozen {
-        return Err(Defer::Frozen);
+    if view.frozen {
+        return Err(Deferral::Frozen);
     }
-    if v.recovering {
-        return Err(Defer::Recovering);
+    if view.recovering {
+        return Err(Deferral::Recovering);
     }
-    if is_link_busy(v, x, queued) {
-        return Err(Defer::LinkBusy);
+    if is_link_busy(view, place, queued) {
+        return Err(Deferral::LinkBusy);
     }
-    if is_port_busy(v, x) {
-        return Err(Defer::PortBusy);
+    if is_port_busy(view, place) {
+        return Err(Deferral::PortBusy);
     }
-    if has_no_tag(v, queued, limit) {
-        return Err(Defer::NoTag);
+    if has_no_tag(view, queued, limit) {
+        return Err(Deferral::NoTag);
     }
     Ok(())
 }
 
-fn is_link_busy(v: &View, x: Place, queued: bool) -> bool
-    ensures { result ≡ is_link_busy v.now.slots x queued }
+fn is_link_busy(view: &View, place: Place, queued: bool) -> bool
+    ensures { result ≡ is_link_busy view.now.slots place queued }
 {
     if queued {
-        any_unqueued_at(&v.slots, x)
+        any_unqueued_at(&view.slots, place)
     } else {
-        any_at(&v.slots, x)
+        any_at(&view.slots, place)
     }
 }
 
-fn is_port_busy(v: &View, x: Place) -> bool
-    ensures { result ≡ is_port_busy v.now x }
+fn is_port_busy(view: &View, place: Place) -> bool
+    ensures { result ≡ is_port_busy view.now place }
 {
-    v.pmp && (any_elsewhere(&v.slots, x) || is_taken(v.exclusive, x))
+    view.pmp && !view.fbs && (any_elsewhere(&view.slots, place) || is_taken(view.exclusive, place))
 }
 
-fn has_no_tag(v: &View, queued: bool, limit: u8) -> bool
-    ensures { result ≡ has_no_tag v.now.slots queued limit }
+fn has_no_tag(view: &View, queued: bool, limit: u8) -> bool
+    ensures { result ≡ has_no_tag view.now.slots queued limit }
 {
-    let tags = if queued { usize::from(limit) } else { 32 };
-    first_free(&v.slots, tags).is_none()
+    let tags = if queued {
+        usize::from(limit)
+    } else {
+        TAG_COUNT
+    };
+    first_free(&view.slots, tags).is_none()
 }
 
 fn any_at(slots: &[Option<(Place, bool)>], x: Place) -> bool
@@ -109,7 +115,7 @@ fn is_elsewhere(slot: &Option<(Place, bool)>, x: Place) -> bool
     }
 }
 
-/// Whether another place than `x` has the port to itself.
+/// Whether another place than `x` alone may issue.
 fn is_taken(exclusive: Option<Place>, x: Place) -> bool
     ensures { result ≡ is_taken exclusive x }
 {

@@ -1,13 +1,8 @@
 //! Whether a command may be issued now, and what defers it where it may not. Nothing here takes memory.
 #![tactic(auto)]
 
-mod defer;
 mod deferral;
 mod view;
 
-pub use defer::Defer;
 pub use deferral::may_issue;
 pub use view::View;
-
-#[cfg(test)]
-mod tests;

@@ -1,3 +1,4 @@
-pub mod Slots
+pub mod EachFlight
 pub mod Marks
 pub mod Numbers
+pub mod Slots

@@ -2,14 +2,14 @@ ghost use Rattle.std.specs.Prelude.{◌≡◌, ℕ, ◌↔◌, false, length, Is
 ghost use Rattle.host_tags.specs.Numbers.{is_issue, without};
 
 use crate::in_flight::InFlight;
-use ata_base::{ErrMask, IssueNo, Place, Tag};
+use ata_base::{IssueNo, Kinds, Place, TAG_COUNT, Tag, mask_of};
 use std::marker::Model;
 
 /// What is in flight under each tag of a port.
 /// A contract sees it as the list of 32 options by tag, None where the tag is free.
 #[derive(Clone, Copy, Debug, PartialEq, Eq)]
 pub struct Slots {
-    flights: [Option<InFlight>; 32],
+    flights: [Option<InFlight>; TAG_COUNT],
 }
 
 impl Model for Slots {
@@ -34,27 +34,27 @@ impl Slots {
         ensures { result ≡ no_flights }
     {
         Slots {
-            flights: [None; 32],
+            flights: [None; TAG_COUNT],
         }
     }
 
     /// Puts an issue under the lowest free tag below `limit`, which is answered. None exactly where no
     /// tag below `limit` is free; then nothing changes.
-    pub fn claim(&mut self, limit: u8, f: InFlight) -> Option<Tag>
+    pub fn claim(&mut self, limit: u8, flight: InFlight) -> Option<Tag>
         ensures found { result ≡ free_below limit self.old }
-        ensures put { IfSome result (λ t. self.new ≡ put t f self.old) }
+        ensures put { IfSome result (λ tag. self.new ≡ put tag flight self.old) }
         ensures none { IfNone result (self.new ≡ self.old) }
     {
         let tag = self.free_below(limit)?;
-        self.put(tag, f);
+        self.put(tag, flight);
         Some(tag)
     }
 
     /// Puts an issue under the tag, whatever was there.
-    pub fn put(&mut self, t: Tag, f: InFlight)
-        ensures { self.new ≡ put t f self.old }
+    pub fn put(&mut self, tag: Tag, flight: InFlight)
+        ensures { self.new ≡ put tag flight self.old }
     {
-        self.flights[t.get() as usize] = Some(f);
+        self.flights[tag.get() as usize] = Some(flight);
     }
 
     /// The lowest free tag below `limit`, None exactly where no tag below `limit` is free.
@@ -62,70 +62,85 @@ impl Slots {
         ensures { result ≡ free_below limit self.now }
     {
         match first_free(&self.flights, usize::from(limit)) {
-            Some(at) => Tag::new(at as u8),
+            Some(at) => Some(Tag::at(at as u8)),
             None => None,
         }
     }
 
     /// The issue in flight under the tag, None exactly where the tag is free.
-    pub fn get(&self, t: Tag) -> Option<InFlight>
-        ensures flight { result ≡ flight_at self.now t }
+    pub fn get(&self, tag: Tag) -> Option<InFlight>
+        ensures flight { result ≡ flight_at self.now tag }
         ensures slots { length self.now ≡ 32 }
     {
-        self.flights[t.get() as usize]
+        self.flights[tag.get() as usize]
+    }
+
+    /// What is under the tag, lent.
+    pub fn at(&self, tag: Tag) -> &Option<InFlight>
+        ensures flight { result.now ≡ flight_at self.now tag }
+        ensures slots { length self.now ≡ 32 }
+    {
+        &self.flights[tag.get() as usize]
+    }
+
+    /// What is under each tag in order, lent.
+    pub fn flights(&self) -> &[Option<InFlight>]
+        ensures flights { result.now ≡ self.now }
+        ensures slots { length self.now ≡ 32 }
+    {
+        &self.flights
     }
 
     /// Gives the issue under the tag to recovery, with these kinds of error.
-    pub fn condemn(&mut self, t: Tag, kinds: ErrMask)
-        requires busy { IsTrue (is_busy self.old t) }
-        requires unowned { is_owned self.old t ≡ false }
-        ensures { self.new ≡ marked (condemned kinds) t self.old }
+    pub fn condemn(&mut self, tag: Tag, kinds: Kinds)
+        requires busy { IsTrue (is_busy self.old tag) }
+        requires unowned { is_owned self.old tag ≡ false }
+        ensures { self.new ≡ marked (condemned kinds) tag self.old }
     {
-        if let Some(f) = &mut self.flights[t.get() as usize] {
+        if let Some(f) = &mut self.flights[tag.get() as usize] {
             f.owned = true;
             f.kinds = kinds;
         }
     }
 
     /// Notes that the timer has told of the issue under the tag. A free tag stays free.
-    pub fn expire_mark(&mut self, t: Tag)
-        ensures { self.new ≡ marked expired t self.old }
+    pub fn expire_mark(&mut self, tag: Tag)
+        ensures { self.new ≡ marked expired tag self.old }
     {
-        if let Some(f) = &mut self.flights[t.get() as usize] {
+        if let Some(f) = &mut self.flights[tag.get() as usize] {
             f.expired = true;
         }
     }
 
     /// Frees the tag, and answers the issue that was in flight under it.
-    pub fn release(&mut self, t: Tag) -> InFlight
-        requires { IsTrue (is_busy self.old t) }
-        ensures flight { flight_at self.old t ≡ Some result }
-        ensures free { self.new ≡ released t self.old }
+    pub fn release(&mut self, tag: Tag) -> InFlight
+        requires { IsTrue (is_busy self.old tag) }
+        ensures flight { flight_at self.old tag ≡ Some result }
+        ensures free { self.new ≡ released tag self.old }
     {
-        let at = t.get() as usize;
+        let at = tag.get() as usize;
         let flight = self.flights[at];
         self.flights[at] = None;
         flight.unwrap()
     }
 
     /// For each tag the place of its issue and whether it is queued, None where the tag is free.
-    #[tactic(auto, using(std::proofs::lemmas::List::map_more, std::proofs::lemmas::List::take_more_set))]
-    pub fn outline(&self) -> [Option<(Place, bool)>; 32]
+    pub fn outline(&self) -> [Option<(Place, bool)>; TAG_COUNT]
         ensures { result ≡ map (option_map (λ f. (f.place, f.queued))) self.now }
     {
-        let mut outline = [None; 32];
-        for tag in 0..32 {
-            outline[tag] = place_and_queuing(self.flights[tag]);
+        let mut outline = [None; TAG_COUNT];
+        for tag in 0..TAG_COUNT {
+            draw(&mut outline[tag], &self.flights[tag]);
         }
         outline
     }
 
     /// The issue of this number, if it is in flight, leaves its tag.
-    pub fn release_issue(&mut self, n: IssueNo)
-        ensures { self.new ≡ without n.n self.old }
+    pub fn release_issue(&mut self, number: IssueNo)
+        ensures { self.new ≡ without number.n self.old }
     {
-        for tag in 0..32 {
-            self.flights[tag] = left_by(self.flights[tag], n);
+        for tag in 0..TAG_COUNT {
+            leave(&mut self.flights[tag], number);
         }
     }
 
@@ -134,11 +149,7 @@ impl Slots {
         ensures value { result ≡ busy_mask self.now }
         ensures bits { (t : ℕ) → IsBitSet result t ↔ IsTrue (is_busy self.now t) }
     {
-        let mut mask = 0;
-        for below in 0..32 {
-            mask = 2 * mask + u32::from(self.flights[31 - below].is_some());
-        }
-        mask
+        mask_of(&self.flights, |slot| slot.is_some())
     }
 
     /// The tags whose issues are owned by recovery: bit t stands for tag t.
@@ -146,11 +157,7 @@ impl Slots {
         ensures value { result ≡ owned_mask self.now }
         ensures bits { (t : ℕ) → IsBitSet result t ↔ IsTrue (is_owned self.now t) }
     {
-        let mut mask = 0;
-        for below in 0..32 {
-            mask = 2 * mask + u32::from(self.flights[31 - below].is_some_and(|f| f.owned));
-        }
-        mask
+        mask_of(&self.flights, |slot| slot.is_some_and(|f| f.owned))
     }
 }
 
@@ -161,29 +168,31 @@ fn first_free(slots: &[Option<InFlight>], limit: usize) -> Option<usize>
     slots.iter().take(limit).position(|slot| slot.is_none())
 }
 
-/// What is in a slot once the issue of this number has left.
-fn left_by(slot: Option<InFlight>, n: IssueNo) -> Option<InFlight>
-    ensures { result ≡ (if is_issue n.n slot then None else slot) }
+/// The issue of this number leaves a slot, if it is there.
+fn leave(slot: &mut Option<InFlight>, number: IssueNo)
+    ensures { slot.new ≡ (if is_issue number.n slot.old then None else slot.old) }
 {
-    if is_issue(&slot, n) { None } else { slot }
+    if is_issue(slot, number) {
+        *slot = None;
+    }
 }
 
 /// Whether the issue of this number is in a slot.
-fn is_issue(slot: &Option<InFlight>, n: IssueNo) -> bool
-    ensures { result ≡ is_issue n.n slot.now }
+fn is_issue(slot: &Option<InFlight>, number: IssueNo) -> bool
+    ensures { result ≡ is_issue number.n slot.now }
 {
     match slot {
-        Some(f) => f.n.n == n.n,
+        Some(f) => f.number.n == number.n,
         None => false,
     }
 }
 
-/// The place of a slot's issue and whether it is queued.
-fn place_and_queuing(slot: Option<InFlight>) -> Option<(Place, bool)>
-    ensures { result ≡ option_map (λ f. (f.place, f.queued)) slot }
+/// Draws a slot: the place of its issue and whether it is queued.
+fn draw(drawn: &mut Option<(Place, bool)>, slot: &Option<InFlight>)
+    requires { drawn.old ≡ None }
+    ensures { drawn.new ≡ option_map (λ f. (f.place, f.queued)) slot.now }
 {
-    match slot {
-        Some(f) => Some((f.place, f.queued)),
-        None => None,
+    if let Some(f) = slot {
+        *drawn = Some((f.place, f.queued));
     }
 }

@@ -1,20 +1,12 @@
-use Rattle.std.proofs.Common.{refl, rules}
-use Rattle.host_tags.proofs.MaskLemmas.{mask_none, mask_small, bit_of_mask}
+use Rattle.std.proofs.Common.{◌≡◌, ◌∙◌, ap, None, refl, rules}
+use Rattle.ata_base.specs.Masks.{mask_of}
+use Rattle.ata_base.proofs.MaskLemmas.{bit_of_mask_else}
 use Rattle.host_timer.specs.Due.{has_due}
 use Rattle.host_timer.proofs.due_tags.due.Goals as goal
 
-pub loop-below-init : goal.loop-below-init
-loop-below-init c = mask_none (has_due c.args.now.n) c.flights_of-flights.result 32 (search rules)
-
-pub overflow_mul-mask : goal.overflow_mul-mask
-overflow_mul-mask c =
-    let h = mask_small (has_due c.args.now.n) c.flights_of-flights.result c.loop-below.below _ (search rules) (search rules) c.loop-below.invariant in
-    search rules
-
-pub overflow_add-mask : goal.overflow_add-mask
-overflow_add-mask c =
-    let h = mask_small (has_due c.args.now.n) c.flights_of-flights.result c.loop-below.below _ (search rules) (search rules) c.loop-below.invariant in
-    search rules
-
 pub returns-clause-bits : goal.returns-clause-bits
-returns-clause-bits c = λ t. bit_of_mask (has_due c.args.now.n) c.args.s.now t _ refl (search rules)
+returns-clause-bits c =
+    let test = has_due c.args.now.n c.args.drained in
+    let value : c.mask_of.result ≡ mask_of test c.args.slots.now =
+    c.mask_of.ensures test (λ slot told says. search rules) ∙ ap (mask_of test) c.flights.ensures.flights in
+    λ tag. bit_of_mask_else test None c.args.slots.now tag _ refl value

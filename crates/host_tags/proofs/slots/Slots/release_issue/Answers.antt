@@ -9,5 +9,5 @@ loop-tag-preserved c =
     let still_within : c.loop-tag.tag < length c.loop-tag.self-inside.flights = omega (arith, c.loop-tag.invariant.1) in (
       c.loop-tag.invariant.0,
       simp length-set c.loop-tag.invariant.1,
-      rw c.left_by.ensures (map_over_more _ _ _ c.loop-tag.tag _ within c.loop-tag.invariant.2 (get_or_default _ c.loop-tag.tag _ _ still_within)),
+      rw c.leave.ensures (map_over_more _ _ _ c.loop-tag.tag _ within c.loop-tag.invariant.2 (get_or_default _ c.loop-tag.tag _ _ still_within)),
     )

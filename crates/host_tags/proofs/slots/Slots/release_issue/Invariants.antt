@@ -6,4 +6,4 @@ abbrev pub invariant-loop-tag : goal.invariant-loop-tag
 invariant-loop-tag l =
     (length l.initial.self-inside.flights ≡ 32)
     × (length l.self-inside.flights ≡ 32)
-    × (l.self-inside.flights ≡ without l.n.n (take l.tag l.initial.self-inside.flights) ++ drop l.tag l.initial.self-inside.flights)
+    × (l.self-inside.flights ≡ without l.number.n (take l.tag l.initial.self-inside.flights) ++ drop l.tag l.initial.self-inside.flights)

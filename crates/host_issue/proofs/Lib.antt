@@ -1,0 +1,2 @@
+mod AbortLemmas
+mod AlwaysLemmas

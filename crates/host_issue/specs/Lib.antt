@@ -1,0 +1,3 @@
+pub mod Aborting
+pub mod Finding
+pub mod Issuing
