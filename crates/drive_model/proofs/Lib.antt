@@ -1,4 +1,6 @@
-pub mod Apart
-pub mod Bits
+pub mod HeldTags
 pub mod Marked
-pub mod NotQueued
+pub mod Picked
+pub mod Stored
+pub mod Told
+pub mod Written

@@ -88,51 +88,25 @@ marks_of_clear words count at within room =
     (bit_at_clear_same w64 (get_or words (at / 64) 0) (at % 64) small)
     (λ i low differs. bit_at_clear_other w64 (get_or words (at / 64) 0) (at % 64) small i low differs)
 
-heal_first : (xs : List Bool) (k : ℕ) → k < length xs → set (replicate k false ++ drop k xs) k false ≡ replicate (suc k) false ++ drop (suc k) xs
-heal_first [] k within = absurd (omega (arith, within))
-heal_first (x ∷ xs) zero within = refl
-heal_first (x ∷ xs) (suc k) within = ap (λ r. false ∷ r) (heal_first xs k (omega arith))
-
-heal_step :
-    (lba k n : ℕ) (xs : List Bool) → lba + k ≡ n → n < length xs
-    → set (take lba xs ++ replicate k false ++ drop n xs) n false ≡ take lba xs ++ replicate (suc k) false ++ drop (suc n) xs
-heal_step zero k n xs is within =
-    let same : n ≡ k = omega arith in rw same (heal_first xs k (omega arith))
-heal_step (suc lba) k n [] is within = absurd (omega (arith, within))
-heal_step (suc lba) k zero (x ∷ xs) is within = absurd (omega (arith, is))
-heal_step (suc lba) k (suc n) (x ∷ xs) is within = ap (λ r. x ∷ r) (heal_step lba k n xs (omega arith) (omega arith))
-
--- one sector more is good
-pub heal_more :
-    (lba k : ℕ) (xs : List Bool) → lba + k < length xs
-    → set (take lba xs ++ replicate k false ++ drop (lba + k) xs) (lba + k) false
-    ≡ take lba xs ++ replicate (k + 1) false ++ drop (lba + (k + 1)) xs
-heal_more lba k xs within =
-    let one : suc k ≡ k + 1 = omega arith in
-    let after : suc (lba + k) ≡ lba + (k + 1) = omega arith in
-    heal_step lba k (lba + k) xs refl within
-    ∙ ap (λ j. take lba xs ++ replicate j false ++ drop (suc (lba + k)) xs) one
-    ∙ ap (λ j. take lba xs ++ replicate (k + 1) false ++ drop j xs) after
-
 -- the sectors up to there are good, and there is the end
 pub none_bad :
-    (lba count : ℕ) (bad : List Bool) → lba + count ≤ length bad
-    → ((k : ℕ) → k < count → get_or bad (lba + k) false ≡ false) → None ≡ least_bad lba count bad
-none_bad lba count bad within good =
-    let size : length (take count (drop lba bad)) ≡ count = rw (length-take count (drop lba bad), length-drop lba bad) (omega (arith, within)) in
-    let at = position_or_len_is (λ b. b) (take count (drop lba bad)) count false (omega (arith, size))
-    (λ k below. get_or-take count (drop lba bad) k false below ∙ get_or-drop lba bad k false ∙ good k below)
-    (λ less. absurd (omega (arith, less, size))) in
-    grind (arith, common_steps, at, size)
+    (lba count : ℕ) (bad : List Bool) → ((k : ℕ) → k < count → get_or bad (lba + k) false ≡ false) → None ≡ least_bad lba count bad
+none_bad lba count bad good =
+    let size : ℕ = length (take count (drop lba bad)) in
+    let most : size ≤ count = omega (arith, length-take count (drop lba bad)) in
+    let at = position_or_len_is (λ b. b) (take count (drop lba bad)) size false (omega arith)
+    (λ k below. get_or-take count (drop lba bad) k false (omega (arith, below, most)) ∙ get_or-drop lba bad k false ∙ good k (omega (arith, below, most)))
+    (λ less. absurd (omega (arith, less))) in
+    grind (arith, common_steps, at, most)
 
 -- the sectors up to there are good, and that one is bad
 pub first_bad :
-    (lba count step : ℕ) (bad : List Bool) → lba + count ≤ length bad → step < count
+    (lba count step : ℕ) (bad : List Bool) → lba + step < length bad → step < count
     → ((k : ℕ) → k < step → get_or bad (lba + k) false ≡ false) → get_or bad (lba + step) false ≡ true
     → Some (lba + step) ≡ least_bad lba count bad
 first_bad lba count step bad within below good is =
-    let size : length (take count (drop lba bad)) ≡ count = rw (length-take count (drop lba bad), length-drop lba bad) (omega (arith, within)) in
-    let at = position_or_len_is (λ b. b) (take count (drop lba bad)) step false (omega (arith, size, below))
+    let size : step < length (take count (drop lba bad)) = rw (length-take count (drop lba bad), length-drop lba bad) (omega (arith, within, below)) in
+    let at = position_or_len_is (λ b. b) (take count (drop lba bad)) step false (omega (arith, size))
     (λ k small. get_or-take count (drop lba bad) k false (omega (arith, small, below)) ∙ get_or-drop lba bad k false ∙ good k small)
     (λ less. get_or-take count (drop lba bad) step false below ∙ get_or-drop lba bad step false ∙ is) in
     grind (arith, common_steps, at, size)

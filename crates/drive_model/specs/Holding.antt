@@ -1,5 +1,5 @@
 -- The issues that a drive holds, in the order of issue.
-use Rattle.std.specs.Prelude.{◌≡◌, ℕ, ◌%◌, ◌<◌, ◌==◌, nat_eq, Bool, true, false, not, List, [], ◌∷◌, ◌++◌, Option, Some, None, All, length, map, filter, find, slice_get}
+use Rattle.std.specs.Prelude.{ℕ, ◌%◌, ◌==◌, nat_eq, Bool, true, false, not, List, [], ◌∷◌, ◌++◌, Option, Some, None, All, length, map, filter, find, slice_get}
 use Rattle.std.specs.List.{list_any}
 use Rattle.ata_base.specs.declared.issue_no.IssueNo.{IssueNo}
 use Rattle.ata_base.specs.declared.op.Op.{Op}
@@ -7,9 +7,11 @@ use Rattle.drive_model.specs.declared.assigned.Assigned.{Assigned}
 use Rattle.drive_model.specs.declared.assigned.Assigned.TheVariants.{Hang}
 use Rattle.drive_model.specs.declared.held.Held.{Held}
 use Rattle.drive_model.specs.declared.queued_error.QueuedError.{QueuedError}
-use Rattle.drive_model.specs.Assigned.{next_assigned, lowered}
-use Rattle.drive_model.specs.Sectors.{IsFor}
+use Rattle.drive_model.specs.Assigned.{next_assigned, with_count_down}
+use Rattle.drive_model.specs.Sectors.{IsShort}
 use Rattle.drive_model.specs.View.{DriveView}
+
+-- No part of the rules of a port, but words of the code: tags_of, has_tag, AllShort, HoldingView.
 
 -- the tags of held issues
 abbrev pub tags_of : List Held → List ℕ
@@ -23,9 +25,9 @@ has_tag tag holds = list_any (nat_eq tag) (tags_of holds)
 abbrev pub issue_of : ℕ → List Held → Option Held
 issue_of number holds = find (λ h. h.number.n == number) holds
 
--- the held issues but for the one with this tag
-abbrev pub without_tag : ℕ → List Held → List Held
-without_tag tag holds = filter (λ h. not (h.tag == tag)) holds
+-- the held issues but for the one of this number
+abbrev pub without_issue : ℕ → List Held → List Held
+without_issue number holds = filter (λ h. not (h.number.n == number)) holds
 
 -- whether a hang is assigned: such an issue is held and never done
 abbrev pub is_hung : Assigned → Bool
@@ -50,14 +52,14 @@ picked pick v = picked_of pick (workable v.stopped v.held)
 abbrev pub taken : IssueNo → ℕ → Op → Bool → DriveView → DriveView
 taken number tag op queued v = record v {
   held = v.held ++ record { number = number; tag = tag; op = op; queued = queued; assigned = next_assigned v.counts } ∷ [];
-  counts = lowered (next_assigned v.counts) v.counts;
+  counts = with_count_down (next_assigned v.counts) v.counts;
 }
 
--- each tag is one of the 32, and no two held issues have the same one
-abbrev pub AreApart : List Held → Type 0
-AreApart [] = Unit {0}
-AreApart (h ∷ rest) = (h.tag < 32) × (has_tag h.tag rest ≡ false) × AreApart rest
+-- each held issue gives at most 16 stamps
+abbrev pub AllShort : List Held → Type 0
+AllShort holds = All (λ h. IsShort h.op) holds
 
--- a drive with so many sectors can carry out each issue that it holds
-abbrev pub AllFit : ℕ → List Held → Type 0
-AllFit sectors holds = All (λ h. IsFor sectors h.op) holds
+-- the issues that a drive holds, and for how many more there is memory
+pub record HoldingView : Type 0 where
+  pub issues : List Held
+  pub spare : ℕ

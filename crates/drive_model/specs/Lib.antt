@@ -1,10 +1,12 @@
 pub mod Assigned
 pub mod Frame
+pub mod FreshAndReset
 pub mod Holding
 pub mod Inject
 pub mod Log
 pub mod Marks
 pub mod Sectors
-pub mod Standing
+pub mod Single
+pub mod Told
 pub mod View
 pub mod Work

@@ -1,5 +1,5 @@
 -- The error log and the identity that a drive is asked for (ACS-3, NCQ Command Error log; IDENTIFY DEVICE).
-use Rattle.std.specs.Prelude.{ℕ, ◌+◌, ◌-◌, ◌%◌, nat_lt, List, [], Option, Some, None, slice_index, slice_set, if◌then◌else◌}
+use Rattle.std.specs.Prelude.{ℕ, ◌+◌, ◌-◌, ◌%◌, ◌==◌, Bool, nat_lt, List, [], Option, Some, None, slice_index, slice_set, if◌then◌else◌}
 use Rattle.ata_ident.specs.Build.{identity_page}
 use Rattle.ata_log.specs.Page.{log_page}
 use Rattle.drive_model.specs.declared.counts.Counts.{Counts}
@@ -7,6 +7,9 @@ use Rattle.drive_model.specs.declared.log_fault.LogFault.{LogFault}
 use Rattle.drive_model.specs.declared.log_fault.LogFault.TheVariants.{Fail, Sum, NotQueued, Idle}
 use Rattle.drive_model.specs.declared.queued_error.QueuedError.{QueuedError}
 use Rattle.drive_model.specs.View.{DriveView}
+
+-- No part of the rules of a port, but words of the code: with_wrong_sum, page_with, log_said, read_with, after_log,
+-- identity_said.
 
 -- a count of logidle that isn't 0 applies where a tag isn't in flight
 abbrev pub idle_fault : ℕ → Option ℕ → Option LogFault
@@ -57,9 +60,13 @@ abbrev pub after_log : Option QueuedError → Option ℕ → DriveView → Drive
 after_log None idle v = v
 after_log (Some e) idle v = read_with (log_fault_of v.counts idle) v
 
+-- whether a drive answers when it is asked who it is: no fault of that asking is to come
+abbrev pub answers_asking : DriveView → Bool
+answers_asking v = v.counts.ident_fail == 0
+
 -- the page in which a drive tells who it is; none where a fault of that asking is to come
 abbrev pub identity_said : DriveView → Option (List ℕ)
-identity_said v = if nat_lt 0 v.counts.ident_fail then None else Some (identity_page v.identity)
+identity_said v = if answers_asking v then Some (identity_page v.identity) else None
 
 -- a drive once it was asked who it is: a count that isn't 0 falls by 1
 abbrev pub after_asking : DriveView → DriveView

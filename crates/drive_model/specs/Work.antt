@@ -1,5 +1,5 @@
 -- How a drive ends an issue (ACS-3, Normal outputs and Error outputs).
-use Rattle.std.specs.Prelude.{ℕ, Bool, true, false, not, ◌&&◌, List, [], Option, Some, None, if◌then◌else◌}
+use Rattle.std.specs.Prelude.{ℕ, Bool, true, false, List, [], Option, Some, None, if◌then◌else◌}
 use Rattle.ata_base.specs.declared.op.Op.{Op}
 use Rattle.ata_base.specs.declared.op.Op.TheVariants.{Read, Verify, Power}
 use Rattle.ata_base.specs.declared.regs.Regs.{Regs}
@@ -11,10 +11,11 @@ use Rattle.drive_model.specs.declared.assigned.Failure.TheVariants.{Icrc, Abort,
 use Rattle.drive_model.specs.declared.cause.Cause.{Cause}
 use Rattle.drive_model.specs.declared.cause.Cause.TheVariants.{Failed, BadSector, Good}
 use Rattle.drive_model.specs.declared.held.Held.{Held}
-use Rattle.drive_model.specs.declared.queued_error.QueuedError.{QueuedError}
-use Rattle.drive_model.specs.Holding.{without_tag}
-use Rattle.drive_model.specs.Sectors.{stored, healed, stamps_read, least_bad}
+use Rattle.drive_model.specs.Sectors.{stamps_read, least_bad}
+use Rattle.drive_model.specs.Told.{done_with}
 use Rattle.drive_model.specs.View.{DriveView}
+
+-- No part of the rules of a port, but words of the code: finished, worked.
 
 -- a command over these sectors ends at the least bad one, where there is one
 abbrev pub ending_at : Option ℕ → Cause
@@ -42,45 +43,31 @@ is_good Good = true
 is_good _ = false
 
 -- the registers of an end with this status, error, lba and count; bit 6 of device says LBA
-abbrev pub ended : ℕ → ℕ → ℕ → ℕ → Regs
-ended status error lba count = record { status = status; error = error; lba = lba; device = 0x40; count = count }
+abbrev pub registers : ℕ → ℕ → ℕ → ℕ → Regs
+registers status error lba count = record { status = status; error = error; lba = lba; device = 0x40; count = count }
 
 -- the registers of a good end: DRDY alone; the count of CHECK POWER MODE is 255, "active or idle"
 abbrev pub good_registers : Op → Regs
-good_registers Power = ended 0x40 0 0 255
-good_registers _ = ended 0x40 0 0 0
+good_registers Power = registers 0x40 0 0 255
+good_registers _ = registers 0x40 0 0 0
 
 -- the registers with which an operation ends for a cause
 abbrev pub registers_of : Cause → Op → Regs
-registers_of (Failed Icrc) op = ended 0x41 0x84 0 0
-registers_of (Failed Abort) op = ended 0x41 0x04 0 0
-registers_of (Failed Idnf) op = ended 0x41 0x10 0 0
-registers_of (Failed Df) op = ended 0x60 0 0 0
-registers_of (Failed BadStat) op = ended 0x80 0 0 0
-registers_of (BadSector lba) op = ended 0x41 0x40 lba 0
+registers_of (Failed Icrc) op = registers 0x41 0x84 0 0
+registers_of (Failed Abort) op = registers 0x41 0x04 0 0
+registers_of (Failed Idnf) op = registers 0x41 0x10 0 0
+registers_of (Failed Df) op = registers 0x60 0 0 0
+registers_of (Failed BadStat) op = registers 0x80 0 0 0
+registers_of (BadSector lba) op = registers 0x41 0x40 lba 0
 registers_of Good op = good_registers op
 
 -- a good read gives the stamps as they then are
 abbrev pub stamps_given : Cause → Op → List ℕ → List ℕ
 stamps_given cause op stamps = if is_good cause then stamps_read op stamps else []
 
--- a queued issue that doesn't end well stops the drive, nothing else does
-abbrev pub stop_by : Cause → Held → Option QueuedError → Option QueuedError
-stop_by cause h was = if h.queued && not (is_good cause) then Some (record { tag = h.tag; regs = registers_of cause h.op }) else was
-
--- a drive once it has ended an issue for a cause: the issue isn't held any more, and a good write has stored its
--- stamp and made its sectors good
-abbrev pub ended_for : Cause → Held → DriveView → DriveView
-ended_for cause h v = record v {
-  stamps = if is_good cause then stored h.op v.stamps else v.stamps;
-  bad = if is_good cause then healed h.op v.bad else v.bad;
-  held = without_tag h.tag v.held;
-  stopped = stop_by cause h v.stopped;
-}
-
--- a drive once it has ended an issue
+-- a drive once it has ended an issue: a good write has stored its stamp, a queued one that isn't good stops the drive
 abbrev pub finished : Held → DriveView → DriveView
-finished h v = ended_for (cause_of h v.bad) h v
+finished h v = done_with (is_good (cause_of h v.bad)) (registers_of (cause_of h v.bad) h.op) h v
 
 -- a drive once it has worked: on an issue, or on nothing
 abbrev pub worked : Option Held → DriveView → DriveView

@@ -1,70 +1,93 @@
-ghost use Rattle.std.specs.Prelude.{◌≡◌, ℕ, ◌<◌, ◌%◌, ◌++◌, ◌∷◌, [], ◌↔◌, false, not, length, filter, slice_get, Contains, IfSome, IsTrue, IsBitSet, IfOk};
-ghost use Rattle.drive_model.specs.Holding.{has_tag, issue_of, without_tag, AllFit, workable, picked_of, is_hung};
+ghost use Rattle.std.specs.Prelude.{◌≡◌, ℕ, ◌<◌, ◌%◌, ◌+◌, ◌-◌, ◌++◌, ◌∷◌, [], ◌↔◌, not, length, max, filter, slice_get, IfSome, IsTrue, IsBitSet, IfOk, OnOk, OnErr};
+ghost use Rattle.ata_base.specs.Limits.{tag_count};
+ghost use Rattle.drive_model.specs.Holding.{has_tag, issue_of, without_issue, AllShort, workable, picked_of, is_hung};
+ghost use Rattle.drive_model.specs.Sectors.{IsShort};
 
 use crate::assigned::Assigned;
 use crate::held::Held;
 use crate::queued_error::QueuedError;
-use ata_base::{IssueNo, OutOfMemory, Tag};
+use ata_base::{IssueNo, OutOfMemory, TAG_COUNT, mask_of};
 use std::alloc::Global;
 use std::marker::Model;
 
-/// The issues that a drive holds, at most one for each of the 32 tags; seen as the list in the order of issue.
+/// The issues that a drive holds, each with at most 16 stamps to give; seen as the list in the order of issue, and for
+/// how many more there is memory.
 #[derive(Drop)]
 pub struct Holding {
     list: Vec<Held>,
+    spare: usize,
 }
 
 impl Model for Holding {
-    ghost use Rattle.std.specs.Prelude.{◌≤◌, List};
-    ghost use Rattle.std.specs.Vec.{vec_capacity};
-    ghost use Rattle.drive_model.specs.declared.held.Held.{Held};
-    ghost use Rattle.drive_model.specs.Holding.{AreApart};
+    ghost use Rattle.std.specs.Prelude.{◌+◌, ◌≤◌};
+    ghost use Rattle.std.specs.Vec.{vec_len, vec_capacity};
+    ghost use Rattle.drive_model.specs.Holding.{HoldingView, AllShort};
 
-    ghost Value = { List Held };
+    ghost Value = { HoldingView };
 
-    ghost view = { λ h. h.list.items };
+    ghost view = { λ h. record { issues = h.list.items; spare = h.spare } };
 
-    ghost invariant = { λ h. (32 ≤ vec_capacity h.list) × AreApart h.list.items };
+    ghost invariant = { λ h. (vec_len h.list + h.spare ≤ vec_capacity h.list) × AllShort h.list.items };
 }
 
 impl Holding {
-    /// No issue, and room for 32.
+    /// No issue, and memory for one for each tag.
     pub fn new(alloc: Global) -> Result<Holding, OutOfMemory>
-        ensures { IfOk result (λ h. h ≡ []) }
+        ensures { IfOk result (λ h. h ≡ record { issues = []; spare = tag_count }) }
     {
-        let list = Vec::with_capacity(alloc, 32)?;
-        Ok(Holding { list })
+        let list = Vec::with_capacity(alloc, TAG_COUNT)?;
+        Ok(Holding {
+            list,
+            spare: TAG_COUNT,
+        })
     }
 
-    /// Holds one issue more, the last one. Its tag isn't held yet.
+    /// There is memory for at least so many more.
+    pub fn reserve(&mut self, more: usize) -> Result<(), OutOfMemory>
+        ensures issues { self.new.issues ≡ self.old.issues }
+        ensures ok { OnOk result (self.new.spare ≡ max self.old.spare more) }
+        ensures err { OnErr result (self.new.spare ≡ self.old.spare) }
+    {
+        let spare = self.spare.max(more);
+        self.list.reserve(spare)?;
+        self.spare = spare;
+        Ok(())
+    }
+
+    /// Holds one issue more, the last one.
     pub fn push(&mut self, issue: Held)
-        requires { has_tag issue.tag self.old ≡ false }
-        ensures { self.new ≡ self.old ++ issue ∷ [] }
+        requires short { IsShort issue.op }
+        requires spare { 0 < self.old.spare }
+        ensures issues { self.new.issues ≡ self.old.issues ++ issue ∷ [] }
+        ensures spare { self.new.spare + 1 ≡ self.old.spare }
     {
-        let _ = issue.tag.get();
         self.list.push_reserved(issue);
+        self.spare -= 1;
     }
 
-    /// Holds an issue with this tag no more.
-    pub fn remove(&mut self, tag: Tag)
-        ensures issues { self.new ≡ without_tag tag self.old }
-        ensures fit { (sectors : ℕ) → AllFit sectors self.old → AllFit sectors self.new }
+    /// Holds an issue of this number no more.
+    pub fn remove(&mut self, n: IssueNo)
+        ensures issues { self.new.issues ≡ without_issue n.n self.old.issues }
+        ensures spare { self.new.spare ≡ self.old.spare + (length self.old.issues - length self.new.issues) }
     {
-        let number = tag.get();
-        self.list.retain(|h| h.tag.get() != number);
+        let before = self.list.len();
+        self.list.retain(|h| h.number.n != n.n);
+        self.spare += before - self.list.len();
     }
 
     /// Holds nothing any more.
     pub fn clear(&mut self)
-        ensures { self.new ≡ [] }
+        ensures issues { self.new.issues ≡ [] }
+        ensures spare { self.new.spare ≡ self.old.spare + length self.old.issues }
     {
+        self.spare += self.list.len();
         self.list.clear();
     }
 
     /// The held issue of this number, `None` exactly where there is none.
     pub fn issue(&self, n: IssueNo) -> Option<Held>
-        ensures value { result ≡ issue_of n.n self.now }
-        ensures one { IfSome result (Contains self.now) }
+        ensures value { result ≡ issue_of n.n self.now.issues }
+        ensures short { IfSome result (λ h. IsShort h.op) }
     {
         issue_in(&self.list, n)
     }
@@ -72,8 +95,8 @@ impl Holding {
     /// The issue that a pick means: of those without a hang the one at this place, counted round; none while an error
     /// stops the drive.
     pub fn picked(&self, pick: u8, stopped: &Option<QueuedError>) -> Option<Held>
-        ensures value { result ≡ picked_of pick (workable stopped.now self.now) }
-        ensures one { IfSome result (Contains self.now) }
+        ensures value { result ≡ picked_of pick (workable stopped.now self.now.issues) }
+        ensures short { IfSome result (λ h. IsShort h.op) }
     {
         if stopped.is_some() {
             return None;
@@ -85,16 +108,9 @@ impl Holding {
         nth_able(&self.list, pick as usize % count)
     }
 
-    /// Whether an issue with this tag is held.
-    pub fn holds(&self, tag: Tag) -> bool
-        ensures { result ≡ has_tag tag self.now }
-    {
-        has_tag(&self.list, tag)
-    }
-
     /// The tags of the held issues: bit t stands for tag t.
     pub fn tags(&self) -> u32
-        ensures { (t : ℕ) → IsBitSet result t ↔ IsTrue (has_tag t self.now) }
+        ensures { (t : ℕ) → IsBitSet result t ↔ IsTrue (has_tag t self.now.issues) }
     {
         tags_in(&self.list)
     }
@@ -117,7 +133,7 @@ fn count_able(list: &[Held]) -> usize
 /// The issue at this place among those that can be worked on.
 fn nth_able(list: &[Held], place: usize) -> Option<Held>
     ensures value { result ≡ slice_get (filter (λ h. not (is_hung h.assigned)) list.now) place }
-    ensures one { IfSome result (Contains list.now) }
+    ensures short { AllShort list.now → IfSome result (λ h. IsShort h.op) }
 {
     let mut left = place;
     for h in list {
@@ -134,7 +150,7 @@ fn nth_able(list: &[Held], place: usize) -> Option<Held>
 /// The first of these issues that has this number.
 fn issue_in(list: &[Held], n: IssueNo) -> Option<Held>
     ensures value { result ≡ issue_of n.n list.now }
-    ensures one { IfSome result (Contains list.now) }
+    ensures short { AllShort list.now → IfSome result (λ h. IsShort h.op) }
 {
     for h in list {
         if h.number.n == n.n {
@@ -148,21 +164,9 @@ fn issue_in(list: &[Held], n: IssueNo) -> Option<Held>
 fn tags_in(list: &[Held]) -> u32
     ensures { (t : ℕ) → IsBitSet result t ↔ IsTrue (has_tag t list.now) }
 {
-    let mut mask = 0;
+    let mut held = [false; TAG_COUNT];
     for h in list {
-        mask |= 1 << h.tag.get();
+        held[h.tag.get() as usize] = true;
     }
-    mask
-}
-
-/// Whether one of these issues has this tag.
-fn has_tag(list: &[Held], tag: Tag) -> bool
-    ensures { result ≡ has_tag tag list.now }
-{
-    for h in list {
-        if h.tag.get() == tag.get() {
-            return true;
-        }
-    }
-    false
+    mask_of(&held, |tag| *tag)
 }

@@ -1,5 +1,5 @@
 //! The simulated drive: a stamp for each of its sectors, the issues that it holds, the faults that were put into it,
-//! and how it ends issues, tells its error log and who it is. After `Drive::new` no call takes memory.
+//! and how it ends issues, tells its error log and who it is. Only `Drive::new` and `Drive::reserve` take memory.
 #![tactic(auto)]
 
 mod act;
@@ -13,6 +13,7 @@ mod held;
 mod holding;
 mod log_fault;
 mod log_page;
+mod log_told;
 mod marks;
 mod outcome;
 mod queued_error;
@@ -25,8 +26,6 @@ pub use counts::Counts;
 pub use drive::Drive;
 pub use held::Held;
 pub use log_fault::LogFault;
+pub use log_told::LogTold;
 pub use outcome::Outcome;
 pub use queued_error::QueuedError;
-
-#[cfg(test)]
-mod tests;

@@ -4,6 +4,7 @@ ghost use Rattle.drive_model.specs.Log.{with_wrong_sum, page_with};
 
 use crate::log_fault::LogFault;
 use crate::queued_error::QueuedError;
+use ata_lanes::seal;
 
 /// Byte 0: the command that failed wasn't a queued one (ACS-3, NCQ Command Error log).
 const NQ: u8 = 0x80;
@@ -34,9 +35,8 @@ fn not_queued(e: &QueuedError) -> [u8; 512]
     requires { e.now.regs.lba < 2 ^ 48 }
     ensures { result ≡ log_page (e.now.tag + 128) e.now.regs }
 {
-    let page = ata_log::build(e.tag, &e.regs);
-    let mut marked = page;
-    marked[0] = e.tag.get() + NQ;
-    marked[511] = page[511].wrapping_add(NQ);
-    marked
+    let mut page = ata_log::build(e.tag, &e.regs);
+    page[0] = e.tag.get() + NQ;
+    seal(&mut page);
+    page
 }

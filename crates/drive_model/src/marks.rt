@@ -31,6 +31,13 @@ impl Marks {
         Ok(Marks { words, count })
     }
 
+    /// How many marks there are.
+    pub fn len(&self) -> usize
+        ensures { result ≡ length self.now }
+    {
+        self.count
+    }
+
     /// Whether the mark with this number is set.
     pub fn get(&self, at: usize) -> bool
         requires { at < length self.now }

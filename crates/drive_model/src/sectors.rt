@@ -1,12 +1,13 @@
-ghost use Rattle.std.specs.Prelude.{◌≡◌, ◌+◌, ◌<◌, ◌≤◌, ◌^◌, false, length, replicate, IfOk, IfSome, if◌then◌else◌};
-ghost use Rattle.drive_model.specs.Sectors.{IsFor, stored, healed, stamps_read, least_bad, spoiled};
+ghost use Rattle.std.specs.Prelude.{◌≡◌, ◌+◌, ◌<◌, ◌≤◌, ◌^◌, false, length, replicate, slice_index, IfOk, IfSome, if◌then◌else◌};
+ghost use Rattle.drive_model.specs.Sectors.{IsShort, written, stored, healed, found, stamps_read, least_bad, spoiled};
 
 use crate::marks::Marks;
 use ata_base::{Op, OutOfMemory, Stamps};
 use std::alloc::Global;
 use std::marker::Model;
 
-/// The sectors of a drive, by number: the stamp of each, and whether it is bad.
+/// The sectors of a drive, by number: the stamp of each, and whether it is bad. A sector past the end has the stamp 0,
+/// is good, and isn't written.
 #[derive(Drop)]
 pub struct Sectors {
     stamps: Vec<u64>,
@@ -15,9 +16,9 @@ pub struct Sectors {
 
 impl Model for Sectors {
     ghost use Rattle.std.specs.Prelude.{◌≡◌, length};
-    ghost use Rattle.drive_model.specs.Sectors.{Plate};
+    ghost use Rattle.drive_model.specs.Sectors.{SectorsView};
 
-    ghost Value = { Plate };
+    ghost Value = { SectorsView };
 
     ghost view = { λ s. record { stamps = s.stamps.items; bad = s.bad } };
 
@@ -37,13 +38,12 @@ impl Sectors {
 
     /// The least bad sector among so many from there on, `None` where each is good.
     pub fn least_bad(&self, lba: u64, count: u16) -> Option<u64>
-        requires { lba + count ≤ length self.now.stamps }
         ensures value { result ≡ least_bad lba count self.now.bad }
-        ensures within { IfSome result (λ bad. bad < lba + count) }
+        ensures within { IfSome result (λ bad. bad < length self.now.bad) }
     {
         for step in 0..count {
-            let at = lba + step as u64;
-            if self.bad.get(at as usize) {
+            let at = lba.saturating_add(u64::from(step));
+            if at < self.stamps.len() as u64 && self.bad.get(at as usize) {
                 return Some(at);
             }
         }
@@ -52,24 +52,20 @@ impl Sectors {
 
     /// The stamps that an operation reads: those of a read's sectors, and none for every other operation.
     pub fn read(&self, op: &Op) -> Stamps
-        requires { IsFor (length self.now.stamps) op.now }
+        requires { IsShort op.now }
         ensures { result ≡ stamps_read op.now self.now.stamps }
     {
         match *op {
-            Op::Read { lba, count } => {
-                let start = lba as usize;
-                stamps_of(&self.stamps[start..start + count as usize])
-            }
+            Op::Read { lba, count } => found(&self.stamps, lba, count),
             _ => Stamps::new(),
         }
     }
 
     /// A write that ends well gives its stamp to each of its sectors and makes them good. Nothing else changes them.
     pub fn store(&mut self, op: &Op, well: bool)
-        requires { IsFor (length self.old.stamps) op.now }
         ensures stamps { self.new.stamps ≡ (if well then stored op.now self.old.stamps else self.old.stamps) }
         ensures bad { self.new.bad ≡ (if well then healed op.now self.old.bad else self.old.bad) }
-        ensures size { length self.new.stamps ≡ length self.old.stamps }
+        ensures size { length self.new.bad ≡ length self.old.bad }
     {
         if well {
             store(&mut self.stamps, op);
@@ -77,50 +73,88 @@ impl Sectors {
         }
     }
 
-    /// A sector is bad from now on.
+    /// A sector is bad from now on, if it is on the drive.
     pub fn spoil(&mut self, lba: u64)
-        requires { lba < length self.old.stamps }
         ensures stamps { self.new.stamps ≡ self.old.stamps }
         ensures bad { self.new.bad ≡ spoiled lba self.old.bad }
+        ensures size { length self.new.bad ≡ length self.old.bad }
     {
-        self.bad.put(lba as usize, true);
+        if lba < self.stamps.len() as u64 {
+            self.bad.put(lba as usize, true);
+        }
     }
 }
 
-/// These stamps, at most 16.
-fn stamps_of(list: &[u64]) -> Stamps
-    requires { length list.now ≤ 16 }
-    ensures { result ≡ list.now }
+/// The stamps of so many sectors from there on, 0 past the end.
+fn found(stamps: &[u64], lba: u64, count: u16) -> Stamps
+    requires { count ≤ 16 }
+    ensures { result ≡ found lba count stamps.now }
 {
-    let mut stamps = Stamps::new();
-    for stamp in list {
-        stamps.push(*stamp);
+    let mut given = Stamps::new();
+    for step in 0..count {
+        given.push(stamp_at(stamps, lba, step));
     }
-    stamps
+    given
+}
+
+/// The stamp of the sector so many further on, 0 past the end.
+fn stamp_at(stamps: &[u64], lba: u64, step: u16) -> u64
+    ensures { result ≡ slice_index stamps.now (lba + step) }
+{
+    let at = lba.saturating_add(u64::from(step));
+    if at < stamps.len() as u64 {
+        stamps[at as usize]
+    } else {
+        0
+    }
 }
 
 /// A write gives its stamp to each of its sectors.
 fn store(stamps: &mut Vec<u64>, op: &Op)
-    requires { IsFor (length stamps.old.items) op.now }
     ensures items { stamps.new.items ≡ stored op.now stamps.old.items }
     ensures size { length stamps.new.items ≡ length stamps.old.items }
 {
     if let Op::Write { lba, count, stamp } = *op {
-        let start = lba as usize;
-        stamps[start..start + count as usize].fill(stamp);
+        write(stamps, lba, count, stamp);
+    }
+}
+
+/// So many sectors from there on get this stamp.
+#[tactic(auto, using(crate::proofs::Written::written_more, crate::proofs::Written::written_past, crate::proofs::Written::written_none))]
+fn write(stamps: &mut Vec<u64>, lba: u64, count: u16, stamp: u64)
+    ensures items { stamps.new.items ≡ written lba count stamp stamps.old.items }
+    ensures size { length stamps.new.items ≡ length stamps.old.items }
+{
+    for step in 0..count {
+        let at = lba.saturating_add(u64::from(step)) as usize;
+        if at < stamps.len() {
+            stamps[at] = stamp;
+        }
     }
 }
 
 /// A write makes each of its sectors good.
 fn heal(bad: &mut Marks, op: &Op)
-    requires on { IsFor (length bad.old) op.now }
-    requires fits { length bad.old < 2 ^ 64 }
+    requires { length bad.old < 2 ^ 64 }
     ensures marks { bad.new ≡ healed op.now bad.old }
     ensures size { length bad.new ≡ length bad.old }
 {
     if let Op::Write { lba, count, .. } = *op {
-        for sector in 0..count {
-            bad.put((lba + sector as u64) as usize, false);
+        mend(bad, lba, count);
+    }
+}
+
+/// So many sectors from there on are good.
+#[tactic(auto, using(crate::proofs::Written::written_more, crate::proofs::Written::written_past, crate::proofs::Written::written_none))]
+fn mend(bad: &mut Marks, lba: u64, count: u16)
+    requires { length bad.old < 2 ^ 64 }
+    ensures marks { bad.new ≡ written lba count false bad.old }
+    ensures size { length bad.new ≡ length bad.old }
+{
+    for step in 0..count {
+        let at = lba.saturating_add(u64::from(step)) as usize;
+        if at < bad.len() {
+            bad.put(at, false);
         }
     }
 }

@@ -1,1 +1,2 @@
-pub mod BitLemmas
+mod BitLemmas
+mod TagLemmas

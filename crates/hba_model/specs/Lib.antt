@@ -1,4 +1,6 @@
-pub mod Tags
-pub mod Controller
-pub mod Standing
+pub mod Bits
 pub mod Clearing
+pub mod HbaView
+pub mod StandingCauses
+pub mod Tags
+pub mod TagView

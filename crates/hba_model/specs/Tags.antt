@@ -1,19 +1,12 @@
-use Rattle.std.specs.Prelude.{ℕ, ◌==◌, Bool, true, false, List, Option, None, Some, unwrap_or, map, slice_get, slice_set, if◌then◌else◌}
+use Rattle.std.specs.Prelude.{ℕ, ◌==◌, Bool, true, false, List, Option, None, Some, unwrap_or, slice_get, slice_set, if◌then◌else◌}
 use Rattle.std.specs.Option.{option_map_or}
-use Rattle.std.specs.Simd.Lanes.{mask_l}
-use Rattle.hba_model.specs.declared.tag_state.Stage.{Stage}
-use Rattle.hba_model.specs.declared.tag_state.Stage.TheVariants.{Idle, Active, Done}
-use Rattle.hba_model.specs.declared.tag_state.TagState.{TagState}
+use Rattle.ata_base.specs.Masks.{mask_of}
+use Rattle.hba_model.specs.TagView.{Stage, Idle, Active, Done, TagView, never_issued}
 
--- The tags of a controller: for each of the 32 in order the place at which it was issued last, None where it
--- never was, and how far its command has come.
-
--- a tag before its first issue
-abbrev pub never_issued : TagState
-never_issued = record { place = None; stage = Idle }
+-- The tags of a controller, each of them in order.
 
 -- what stands under a tag
-abbrev pub tag_at : List TagState → ℕ → TagState
+abbrev pub tag_at : List TagView → ℕ → TagView
 tag_at tags t = unwrap_or (slice_get tags t) never_issued
 
 -- whether a stage is that of an active tag
@@ -29,39 +22,39 @@ is_done_stage Active = false
 is_done_stage Done = true
 
 -- whether a tag is active
-abbrev pub is_active : TagState → Bool
+abbrev pub is_active : TagView → Bool
 is_active tag = is_active_stage tag.stage
 
 -- whether a tag's done bit stands
-abbrev pub is_done : TagState → Bool
+abbrev pub is_done : TagView → Bool
 is_done tag = is_done_stage tag.stage
 
 -- the active tags as a mask, whose bit t stands for tag t
-abbrev pub active_mask : List TagState → ℕ
-active_mask tags = mask_l (map is_active tags)
+abbrev pub active_mask : List TagView → ℕ
+active_mask tags = mask_of is_active tags
 
 -- the tags whose done bits stand, as a mask
-abbrev pub done_mask : List TagState → ℕ
-done_mask tags = mask_l (map is_done tags)
+abbrev pub done_mask : List TagView → ℕ
+done_mask tags = mask_of is_done tags
 
 -- a tag is issued at a place: it is active there, and its done bit is cleared
-abbrev pub issued : ℕ → ℕ → List TagState → List TagState
+abbrev pub issued : ℕ → ℕ → List TagView → List TagView
 issued t place tags = slice_set tags t (record { place = Some place; stage = Active })
 
 -- a tag is finished: its done bit stands, it isn't active any more, and its place stays
-abbrev pub finished : ℕ → List TagState → List TagState
+abbrev pub finished : ℕ → List TagView → List TagView
 finished t tags = slice_set tags t (record (tag_at tags t) { stage = Done })
 
--- whether a tag was issued at a place last
-abbrev pub is_of : ℕ → TagState → Bool
-is_of place tag = option_map_or (λ p. p == place) tag.place false
+-- whether this is where a tag was issued last
+abbrev pub is_issued_at : ℕ → Option ℕ → Bool
+is_issued_at place last = option_map_or (λ p. p == place) last false
 
 -- a tag is neither active nor done any more
-abbrev pub cleared : TagState → TagState
+abbrev pub cleared : TagView → TagView
 cleared tag = record tag { stage = Idle }
 
 -- a tag once the link of a place is cleared, or with None the links of all: it is cleared exactly where it was
 -- issued there
-abbrev pub cleared_by : Option ℕ → TagState → TagState
-cleared_by (Some place) tag = if is_of place tag then cleared tag else tag
+abbrev pub cleared_by : Option ℕ → TagView → TagView
+cleared_by (Some place) tag = if is_issued_at place tag.place then cleared tag else tag
 cleared_by None tag = cleared tag

@@ -1,38 +1,41 @@
-ghost use Rattle.std.specs.Prelude.{◌≡◌, ℕ, ◌↔◌, true, false, not, None, IsTrue, IsBitSet, replicate, map};
-ghost use Rattle.std.specs.Simd.Lanes.{mask_l};
-ghost use Rattle.hba_model.specs.Standing.{has_tferr};
-ghost use Rattle.hba_model.specs.Tags.{cleared_by};
+ghost use Rattle.std.specs.Prelude.{◌≡◌, ℕ, ◌↔◌, true, false, not, None, IsTrue, IsBitSet, replicate, Some};
+ghost use Rattle.hba_model.specs.StandingCauses.{has_tferr};
+ghost use Rattle.hba_model.specs.Tags.{is_issued_at};
 
+use crate::bits::{with_bit, without_bit, without_bits};
 use crate::causes::{Cause, Causes};
-use crate::tag_state::{Stage, TagState};
-use ata_base::{Place, Regs, Tag};
+use ata_base::{MOST_PLACES, Place, Regs, TAG_COUNT, Tag, mask_of};
 use std::marker::Model;
 
-/// The controller of a port.
+/// The controller of a port: which tags are active, which are done, and at which place each was issued
+/// last; the causes that stand, TFERR by place; what failed at each place; and the interrupt line. Bit t
+/// of a mask stands for tag t or for place t.
 /// A contract sees it as its 32 tags, the causes that stand, what failed at each of the 15 places, and
 /// the interrupt line.
-#[derive(Clone, Copy, Debug, PartialEq, Eq)]
+#[derive(Debug, Drop)]
 pub struct Hba {
-    tags: [TagState; 32],
+    active: u32,
+    finished: u32,
+    places: [Option<Place>; TAG_COUNT],
     done: bool,
-    tferr: [bool; 15],
+    tferr: u32,
     iferr: bool,
     connect: bool,
     notify: bool,
-    failed: [Option<(Tag, Regs)>; 15],
+    failed: [Option<(Tag, Regs)>; MOST_PLACES],
     line: bool,
 }
 
 impl Model for Hba {
-    ghost use Rattle.std.specs.Prelude.{◌≡◌, length};
-    ghost use Rattle.hba_model.specs.Controller.{Controller};
+    ghost use Rattle.hba_model.specs.Bits.{bits_of, tags_of, IsSound};
+    ghost use Rattle.hba_model.specs.HbaView.{HbaView};
 
-    ghost Value = { Controller };
+    ghost Value = { HbaView };
 
     ghost view = { λ h. record {
-      tags = h.tags;
+      tags = tags_of h.places (bits_of 32 h.active) (bits_of 32 h.finished);
       done = h.done;
-      tferr = h.tferr;
+      tferr = bits_of 15 h.tferr;
       iferr = h.iferr;
       connect = h.connect;
       notify = h.notify;
@@ -40,24 +43,13 @@ impl Model for Hba {
       line = h.line;
     } };
 
-    ghost invariant = { λ h. (length h.tags ≡ 32) × (length h.tferr ≡ 15) × (length h.failed ≡ 15) };
-
-    ghost inverse = { λ c. record {
-      tags = c.tags;
-      done = c.done;
-      tferr = c.tferr;
-      iferr = c.iferr;
-      connect = c.connect;
-      notify = c.notify;
-      failed = c.failed;
-      line = c.line;
-    } };
+    ghost invariant = { λ h. IsSound h.active h.finished h.tferr h.places h.failed };
 }
 
 impl Hba {
     ghost use Rattle.hba_model.specs.Tags.{tag_at, is_active, is_done, active_mask, done_mask, issued, finished};
-    ghost use Rattle.hba_model.specs.Controller.{quiet, failed_at, with_failure};
-    ghost use Rattle.hba_model.specs.Standing.{causes_of, with_cause, without_causes};
+    ghost use Rattle.hba_model.specs.HbaView.{quiet, failed_at, with_failure};
+    ghost use Rattle.hba_model.specs.StandingCauses.{causes_of, with_cause, without_causes};
     ghost use Rattle.hba_model.specs.Clearing.{with_clear_link};
 
     /// No tag is active or done, no cause stands, nothing has failed, and the line is down.
@@ -65,52 +57,45 @@ impl Hba {
         ensures { result ≡ quiet }
     {
         Hba {
-            tags: [TagState {
-                place: None,
-                stage: Stage::Idle,
-            }; 32],
+            active: 0,
+            finished: 0,
+            places: [None; TAG_COUNT],
             done: false,
-            tferr: [false; 15],
+            tferr: 0,
             iferr: false,
             connect: false,
             notify: false,
-            failed: [None; 15],
+            failed: [None; MOST_PLACES],
             line: false,
         }
     }
 
     /// A command is issued under the tag at a place: the tag is active there, and its done bit is cleared.
-    pub fn issue(&mut self, t: Tag, x: Place)
-        ensures { self.new ≡ record self.old { tags = issued t x self.old.tags } }
+    pub fn issue(&mut self, tag: Tag, place: Place)
+        ensures { self.new ≡ record self.old { tags = issued tag place self.old.tags } }
     {
-        self.tags[t.get() as usize] = TagState {
-            place: Some(x),
-            stage: Stage::Active,
-        };
+        self.active = with_bit(self.active, tag.get());
+        self.finished = without_bit(self.finished, tag.get());
+        self.places[tag.get() as usize] = Some(place);
     }
 
     /// The command under the tag ended well: the tag isn't active any more, its done bit is set, and the
     /// cause DONE stands.
-    pub fn finish(&mut self, t: Tag)
-        ensures { self.new ≡ record self.old { tags = finished t self.old.tags; done = true } }
+    pub fn finish(&mut self, tag: Tag)
+        ensures { self.new ≡ record self.old { tags = finished tag self.old.tags; done = true } }
     {
-        let at = t.get() as usize;
-        let place = self.tags[at].place;
-        self.tags[at] = TagState {
-            place,
-            stage: Stage::Done,
-        };
+        self.active = without_bit(self.active, tag.get());
+        self.finished = with_bit(self.finished, tag.get());
         self.done = true;
     }
 
     /// The command under the tag failed at a place with these registers: they are kept as what failed
     /// there, and TFERR of the place stands. The tag stays as it is.
-    pub fn fail(&mut self, t: Tag, x: Place, r: Regs)
-        ensures { self.new ≡ with_failure t x r self.old }
+    pub fn fail(&mut self, tag: Tag, place: Place, regs: Regs)
+        ensures { self.new ≡ with_failure tag place regs self.old }
     {
-        let at = x.get() as usize;
-        self.tferr[at] = true;
-        self.failed[at] = Some((t, r));
+        self.tferr = with_bit(self.tferr, place.get());
+        self.failed[place.get() as usize] = Some((tag, regs));
     }
 
     /// The active tags: bit t stands for tag t.
@@ -118,11 +103,7 @@ impl Hba {
         ensures value { result ≡ active_mask self.now.tags }
         ensures bits { (t : ℕ) → IsBitSet result t ↔ IsTrue (is_active (tag_at self.now.tags t)) }
     {
-        let mut mask = 0;
-        for below in 0..32 {
-            mask = 2 * mask + u32::from(self.tags[31 - below].stage == Stage::Active);
-        }
-        mask
+        self.active
     }
 
     /// The tags whose done bits stand: bit t stands for tag t.
@@ -130,19 +111,15 @@ impl Hba {
         ensures value { result ≡ done_mask self.now.tags }
         ensures bits { (t : ℕ) → IsBitSet result t ↔ IsTrue (is_done (tag_at self.now.tags t)) }
     {
-        let mut mask = 0;
-        for below in 0..32 {
-            mask = 2 * mask + u32::from(self.tags[31 - below].stage == Stage::Done);
-        }
-        mask
+        self.finished
     }
 
     /// The tag and registers of the last failure at a place, None exactly where there was none since its
     /// link, or all links, were cleared.
-    pub fn failed(&self, x: Place) -> Option<(Tag, Regs)>
-        ensures { result ≡ failed_at self.now.failed x }
+    pub fn failed(&self, place: Place) -> Option<(Tag, Regs)>
+        ensures { result ≡ failed_at self.now.failed place }
     {
-        self.failed[x.get() as usize]
+        self.failed[place.get() as usize]
     }
 
     /// The causes that stand.
@@ -152,7 +129,7 @@ impl Hba {
     {
         Causes {
             done: self.done,
-            tferr: places(&self.tferr),
+            tferr: self.tferr as u16,
             iferr: self.iferr,
             connect: self.connect,
             notify: self.notify,
@@ -160,12 +137,12 @@ impl Hba {
     }
 
     /// A cause stands from now on.
-    pub fn set_cause(&mut self, c: Cause)
-        ensures { self.new ≡ with_cause c self.old }
+    pub fn set_cause(&mut self, cause: Cause)
+        ensures { self.new ≡ with_cause cause self.old }
     {
-        match c {
+        match cause {
             Cause::Done => self.done = true,
-            Cause::Tferr { place } => self.tferr[place.get() as usize] = true,
+            Cause::Tferr { place } => self.tferr = with_bit(self.tferr, place.get()),
             Cause::Iferr => self.iferr = true,
             Cause::Connect => self.connect = true,
             Cause::Notify => self.notify = true,
@@ -180,7 +157,7 @@ impl Hba {
     {
         let causes = self.causes();
         self.done = false;
-        self.tferr = [false; 15];
+        self.tferr = 0;
         self.iferr = false;
         self.connect = false;
         self.notify = false;
@@ -219,62 +196,51 @@ impl Hba {
     /// Clears the link of a place: the active and done bits of the tags that were issued there, TFERR and
     /// the failure of the place, and IFERR. With None all places: every active and done bit, and TFERR and
     /// the failure of each place; IFERR stays.
-    pub fn clear_link(&mut self, x: Option<Place>)
-        ensures { self.new ≡ with_clear_link x self.old }
+    pub fn clear_link(&mut self, place: Option<Place>)
+        ensures { self.new ≡ with_clear_link place self.old }
     {
-        clear_tags(&mut self.tags, &x);
-        match &x {
-            Some(place) => {
-                let at = place.get() as usize;
-                self.tferr[at] = false;
-                self.iferr = false;
-                self.failed[at] = None;
-            }
-            None => {
-                self.tferr = [false; 15];
-                self.failed = nothing_failed();
-            }
+        match place {
+            Some(place) => self.clear_place(place),
+            None => self.clear_all(),
         }
+    }
+
+    /// Clears the link of a place.
+    fn clear_place(&mut self, place: Place)
+        ensures { self.new ≡ with_clear_link (Some place) self.old }
+    {
+        let issued_there = mask_of(&self.places, |last| is_issued_at(last, place));
+        self.active = without_bits(self.active, issued_there);
+        self.finished = without_bits(self.finished, issued_there);
+        self.tferr = without_bit(self.tferr, place.get());
+        self.iferr = false;
+        self.failed[place.get() as usize] = None;
+    }
+
+    /// Clears the links of all places.
+    fn clear_all(&mut self)
+        ensures { self.new ≡ with_clear_link None self.old }
+    {
+        self.active = 0;
+        self.finished = 0;
+        self.tferr = 0;
+        self.failed = nothing_failed();
     }
 }
 
 /// Each place without a failure.
-fn nothing_failed() -> [Option<(Tag, Regs)>; 15]
+fn nothing_failed() -> [Option<(Tag, Regs)>; MOST_PLACES]
     ensures { result ≡ replicate 15 None }
 {
-    [None; 15]
+    [None; MOST_PLACES]
 }
 
-/// Clears the active and done bits of the tags that were issued at a place, or with None of all tags.
-fn clear_tags(tags: &mut [TagState; 32], x: &Option<Place>)
-    ensures { tags.new ≡ map (cleared_by x.now) tags.old }
+/// Whether this is where a tag was issued last.
+fn is_issued_at(last: &Option<Place>, place: Place) -> bool
+    ensures { result ≡ is_issued_at place last.now }
 {
-    for tag in 0..32 {
-        tags[tag] = cleared_by(tags[tag], x);
+    match last {
+        Some(last) => last.get() == place.get(),
+        None => false,
     }
-}
-
-/// A tag once the link of a place, or with None of all places, is cleared.
-fn cleared_by(tag: TagState, x: &Option<Place>) -> TagState
-    ensures { result ≡ cleared_by x.now tag }
-{
-    match x {
-        Some(place) if tag.place != Some(*place) => tag,
-        _ => TagState {
-            place: tag.place,
-            stage: Stage::Idle,
-        },
-    }
-}
-
-/// The places at which a bit stands, as a mask: bit p stands for place p.
-fn places(bits: &[bool; 15]) -> u16
-    ensures value { result ≡ mask_l bits.now }
-    ensures places { (p : ℕ) → IsBitSet result p ↔ IsTrue (has_tferr bits.now p) }
-{
-    let mut mask = 0;
-    for below in 0..15 {
-        mask = 2 * mask + u16::from(bits[14 - below]);
-    }
-    mask
 }

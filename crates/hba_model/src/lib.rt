@@ -2,12 +2,9 @@
 //! what failed, and the interrupt line. Nothing here takes memory.
 #![tactic(auto)]
 
+mod bits;
 mod causes;
 mod hba;
-mod tag_state;
 
 pub use causes::{Cause, Causes};
 pub use hba::Hba;
-
-#[cfg(test)]
-mod tests;

@@ -22,9 +22,9 @@ pub struct Link {
 }
 
 impl Model for Link {
-    ghost use Rattle.link_model.specs.LinkState.{LinkState, IsGeneration};
+    ghost use Rattle.link_model.specs.LinkView.{LinkView, IsGeneration};
 
-    ghost Value = { LinkState };
+    ghost Value = { LinkView };
 
     ghost view = { λ l. record { plugged = l.plugged; linked = l.linked; serror = l.serror; limit = l.limit } };
 
@@ -34,7 +34,7 @@ impl Model for Link {
 }
 
 impl Link {
-    ghost use Rattle.link_model.specs.LinkState.{empty_link, IsGeneration, linked_drive, with_serror, with_plugged, after_reset};
+    ghost use Rattle.link_model.specs.LinkView.{empty_link, IsGeneration, linked_drive, with_serror, with_plugged, after_reset};
     ghost use Rattle.link_model.specs.SStatus.{sstatus};
 
     /// No drive is plugged, SError is 0, and the limit is the highest generation, 3.
@@ -59,7 +59,7 @@ impl Link {
         if self.plugged.is_some() {
             return false;
         }
-        self.change(Some(d));
+        self.set_plugged(Some(d));
         true
     }
 
@@ -71,12 +71,12 @@ impl Link {
         ensures empty { IfNone result (self.new ≡ self.old) }
     {
         let drive = self.plugged?;
-        self.change(None);
+        self.set_plugged(None);
         Some(drive)
     }
 
-    /// Ends the link as what is plugged changes.
-    fn change(&mut self, drive: Option<DriveNo>)
+    /// This drive is plugged from now on, None where none is: the link ends, and SError gets its bit 16, PhyRdy change.
+    pub fn set_plugged(&mut self, drive: Option<DriveNo>)
         ensures { self.new ≡ with_plugged drive self.old }
     {
         self.plugged = drive;

@@ -4,6 +4,3 @@
 mod pmp;
 
 pub use pmp::Pmp;
-
-#[cfg(test)]
-mod tests;

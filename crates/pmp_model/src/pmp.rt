@@ -1,8 +1,9 @@
 ghost use Rattle.std.specs.Prelude.{◌≡◌, ℕ, ◌≤◌, ◌↔◌, length, IsTrue, IsBitSet, IfSome};
-ghost use Rattle.link_model.specs.LinkState.{IsGeneration};
-ghost use Rattle.pmp_model.specs.Gscr.{gscr, IsPortCount, has_error_at, error_information};
+ghost use Rattle.link_model.specs.LinkView.{IsGeneration};
+ghost use Rattle.pmp_model.specs.Gscr.{gscr, IsPortCount, has_error, has_error_at, error_information};
 ghost use Rattle.pmp_model.specs.Pscr.{pscr};
 
+use ata_base::mask_of;
 use link_model::Link;
 use std::marker::Model;
 
@@ -77,10 +78,12 @@ fn error_information(links: &[Link]) -> u32
     ensures value { result ≡ error_information links.now }
     ensures bits { (i : ℕ) → IsBitSet result i ↔ IsTrue (has_error_at links.now i) }
 {
-    let mut bits = 0;
-    for below in 0..links.len() {
-        let link = &links[links.len() - 1 - below];
-        bits = 2 * bits + u32::from(link.serror() != 0);
-    }
-    bits
+    mask_of(links, |link| has_error(link))
+}
+
+/// Whether SError tells of anything at a link.
+fn has_error(link: &Link) -> bool
+    ensures { result ≡ has_error link.now }
+{
+    link.serror() != 0
 }

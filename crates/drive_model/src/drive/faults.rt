@@ -1,6 +1,6 @@
 ghost use Rattle.std.specs.Prelude.{◌≡◌, ◌+◌, nat_lt, if◌then◌else◌};
 ghost use Rattle.drive_model.specs.Inject.{has_room, can_inject, injected};
-ghost use Rattle.drive_model.specs.Sectors.{spoiled};
+ghost use Rattle.ata_base.specs.declared.fault.Fault.TheVariants.{Media};
 
 use super::Drive;
 use ata_base::Fault;
@@ -10,8 +10,9 @@ impl Drive {
     /// of SError, for a sector that isn't on the drive, and where the count would pass 4,294,967,295; then nothing
     /// changes.
     pub fn inject(&mut self, f: &Fault) -> bool
-        ensures done { result ≡ can_inject f.now self.old }
-        ensures drive { self.new ≡ (if result then injected f.now self.old else self.old) }
+        ensures done { result ≡ can_inject f.now self.old.drive }
+        ensures drive { self.new.drive ≡ (if result then injected f.now self.old.drive else self.old.drive) }
+        ensures spare { self.new.spare ≡ self.old.spare }
     {
         match *f {
             Fault::Media { lba } => self.spoil(lba),
@@ -32,7 +33,7 @@ impl Drive {
 
     /// Whether `inject` would put this fault into the drive; nothing changes.
     pub fn can_inject(&self, f: &Fault) -> bool
-        ensures { result ≡ can_inject f.now self.now }
+        ensures { result ≡ can_inject f.now self.now.drive }
     {
         match *f {
             Fault::Media { lba } => lba < self.identity.sectors,
@@ -52,8 +53,9 @@ impl Drive {
     }
 
     fn spoil(&mut self, lba: u64) -> bool
-        ensures done { result ≡ nat_lt lba self.old.identity.sectors }
-        ensures drive { self.new ≡ (if result then record self.old { bad = spoiled lba self.old.bad } else self.old) }
+        ensures done { result ≡ nat_lt lba self.old.drive.identity.sectors }
+        ensures drive { self.new.drive ≡ (if result then injected (Media lba) self.old.drive else self.old.drive) }
+        ensures spare { self.new.spare ≡ self.old.spare }
     {
         if lba >= self.identity.sectors {
             return false;

@@ -1,16 +1,8 @@
 use Rattle.std.proofs.Common.{rules}
-use Rattle.pmp_model.proofs.ErrorLemmas.{few_bits, bit_of_place}
+use Rattle.ata_base.proofs.MaskLemmas.{bit_of_mask}
+use Rattle.pmp_model.specs.Gscr.{has_error}
 use Rattle.pmp_model.proofs.pmp.error_information.Goals as goal
 
-pub overflow_mul-bits : goal.overflow_mul-bits
-overflow_mul-bits c =
-    let h = few_bits c.args.links.now _ _ c.requires c.loop-below.invariant in
-    search rules
-
-pub overflow_add-bits : goal.overflow_add-bits
-overflow_add-bits c =
-    let h = few_bits c.args.links.now _ _ c.requires c.loop-below.invariant in
-    search rules
-
 pub returns-clause-bits : goal.returns-clause-bits
-returns-clause-bits c = λ i. bit_of_place c.args.links.now i _ (search rules)
+returns-clause-bits c =
+    λ i. bit_of_mask has_error c.args.links.now i _ (c.mask_of.ensures has_error (λ link told says. search rules))

@@ -1,7 +1,9 @@
-use Rattle.std.proofs.Common.{refl}
+use Rattle.std.proofs.Common.{◌∙◌, ap}
+use Rattle.drive_model.specs.declared.asked.Asked.{Asked}
+use Rattle.drive_model.specs.Holding.{taken}
 use Rattle.drive_model.proofs.drive.Drive.take.Goals as goal
 
-pub returns : goal.returns
-returns c = λ op queued given.
-    let asked = c.read-asked.ensures.value op queued given in
-    rw (← c.self.view_is, c.push.ensures, c.assign-assigned.ensures.counts, c.assign-assigned.ensures.assigned, asked) refl
+pub returns-clause-drive : goal.returns-clause-drive
+returns-clause-drive c = λ op queued given.
+    c.hold.ensures.drive
+    ∙ ap (λ (asked : Asked). taken c.args.n c.args.tag asked.op asked.queued c.args.self.now.drive) (c.read-asked.ensures.value op queued given)

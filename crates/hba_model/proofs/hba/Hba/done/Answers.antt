@@ -1,21 +1,13 @@
-use Rattle.std.proofs.Common.{refl, rules}
-use Rattle.host_tags.proofs.MaskLemmas.{mask_none, mask_small}
-use Rattle.hba_model.specs.Tags.{is_done, never_issued}
-use Rattle.hba_model.proofs.BitLemmas.{bit_of_states}
+use Rattle.std.proofs.Common.{◌≡◌, refl}
+use Rattle.ata_base.proofs.MaskLemmas.{bit_of_mask_else}
+use Rattle.hba_model.specs.TagView.{never_issued}
+use Rattle.hba_model.specs.Tags.{is_done, done_mask}
+use Rattle.hba_model.proofs.TagLemmas.{finished_is}
 use Rattle.hba_model.proofs.hba.Hba.done.Goals as goal
 
-pub loop-below-init : goal.loop-below-init
-loop-below-init c = mask_none is_done c.args.self.now.tags 32 (search rules)
-
-pub overflow_mul-mask : goal.overflow_mul-mask
-overflow_mul-mask c =
-    let h = mask_small is_done c.args.self.now.tags c.loop-below.below _ (search rules) (search rules) c.loop-below.invariant in
-    search rules
-
-pub overflow_add-mask : goal.overflow_add-mask
-overflow_add-mask c =
-    let h = mask_small is_done c.args.self.now.tags c.loop-below.below _ (search rules) (search rules) c.loop-below.invariant in
-    search rules
-
-pub returns-clause-bits : goal.returns-clause-bits
-returns-clause-bits c = λ t. bit_of_states is_done never_issued c.args.self.now.tags t _ refl (search rules)
+pub returns : goal.returns
+returns c =
+    let value : c.self.inside.finished ≡ done_mask c.args.self.now.tags =
+    rw (← c.self.view_is)
+    (finished_is c.self.inside.places c.self.inside.active c.self.inside.finished c.self.invariant.each_tag c.self.invariant.few_finished c.self.invariant.apart) in
+    record { value = value; bits = λ t. bit_of_mask_else is_done never_issued c.args.self.now.tags t _ refl value }

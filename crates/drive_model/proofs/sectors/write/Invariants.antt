@@ -1,0 +1,8 @@
+use Rattle.std.proofs.Common.{◌≡◌, length}
+use Rattle.drive_model.specs.Sectors.{written}
+use Rattle.drive_model.proofs.sectors.write.Given as goal
+
+abbrev pub invariant-loop-step : goal.invariant-loop-step
+invariant-loop-step l =
+    (l.stamps.items ≡ written l.lba l.step l.stamp l.initial.stamps.items)
+    × (length l.stamps.items ≡ length l.initial.stamps.items)

@@ -1,0 +1,12 @@
+use Rattle.std.proofs.Common.{arith}
+use Rattle.hba_model.proofs.hba.Hba.set_cause.Goals as goal
+
+pub invariant_of-self-in-Tferr : goal.invariant_of-self-in-Tferr
+invariant_of-self-in-Tferr c = record {
+  each_tag = c.self.invariant.each_tag;
+  each_place = c.self.invariant.each_place;
+  few_active = c.self.invariant.few_active;
+  few_finished = c.self.invariant.few_finished;
+  few_failed = c.with_bit-self-inside.ensures.room 15 (omega arith) c.self.invariant.few_failed;
+  apart = c.self.invariant.apart;
+}
