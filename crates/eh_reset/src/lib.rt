@@ -5,7 +5,4 @@ mod look;
 mod wait;
 
 pub use look::{ResetLook, reset_look};
-pub use wait::reset_wait;
-
-#[cfg(test)]
-mod tests;
+pub use wait::{RESET_TRIES, reset_wait};

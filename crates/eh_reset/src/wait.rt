@@ -1,7 +1,10 @@
 ghost use Rattle.std.specs.Prelude.{◌≡◌};
-ghost use Rattle.eh_reset.specs.Waits.{reset_wait_of};
+ghost use Rattle.eh_reset.specs.ResetWaits.{reset_wait_of};
 
 use ata_base::Ms;
+
+/// How many tries a reset has.
+pub const RESET_TRIES: u8 = 4;
 
 /// How long the reset of this try, 1 to 4, may take until it is late: 10,000, 10,000, 35,000 and 5,000 ms. `None`
 /// exactly where there is no such try.

@@ -8,7 +8,4 @@ mod wait;
 
 pub use found::{Found, compare};
 pub use probe_times::{ProbeTimes, probe_limit};
-pub use wait::ident_wait;
-
-#[cfg(test)]
-mod tests;
+pub use wait::{IDENT_TRIES, ident_wait};

@@ -1,7 +1,10 @@
 ghost use Rattle.std.specs.Prelude.{◌≡◌};
-ghost use Rattle.eh_reval.specs.Waits.{ident_wait_of};
+ghost use Rattle.eh_reval.specs.IdentWaits.{ident_wait_of};
 
 use ata_base::Ms;
+
+/// How many tries an identity has.
+pub const IDENT_TRIES: u8 = 3;
 
 /// How long a drive may take to tell its identity in this try, 1 to 3, until it is late: 5,000, 10,000 and 30,000 ms.
 /// `None` exactly where there is no such try.

@@ -6,8 +6,8 @@ use Rattle.std.proofs.lemmas.List.{take-map, drop-map}
 use Rattle.std.proofs.lemmas.List.Elements.{All-map}
 use Rattle.std.proofs.lemmas.List.Folds.{fold-map}
 use Rattle.ata_lanes.specs.Counts.{six_counts, is_within as byte_within, is_dubious}
-use Rattle.eh_ring.specs.declared.class.Category.{Category}
-use Rattle.eh_ring.specs.declared.class.Category.TheVariants.{Nil, Bus, Timeout, Unknown}
+use Rattle.eh_ring.specs.declared.error_category.Category.{Category}
+use Rattle.eh_ring.specs.declared.error_category.Category.TheVariants.{Nil, Bus, Timeout, Unknown}
 use Rattle.eh_ring.specs.declared.counts.Counts.{Counts}
 use Rattle.eh_ring.specs.declared.entry.RingEntry.{RingEntry}
 use Rattle.eh_ring.specs.Bytes.{category_byte, time_of}

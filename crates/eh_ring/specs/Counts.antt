@@ -1,8 +1,8 @@
 -- The six counts of a window of an error ring. A ring is the list of its entries, the oldest first.
 use Rattle.std.specs.Prelude.{ℕ, Bool, not, ◌&&◌, ◌==◌, nat_le, List, reverse, take, drop, count_by, take_while}
 use Rattle.std.specs.List.{prefix_len}
-use Rattle.eh_ring.specs.declared.class.Category.{Category}
-use Rattle.eh_ring.specs.declared.class.Category.TheVariants.{Nil, Bus, Timeout, Unknown}
+use Rattle.eh_ring.specs.declared.error_category.Category.{Category}
+use Rattle.eh_ring.specs.declared.error_category.Category.TheVariants.{Nil, Bus, Timeout, Unknown}
 use Rattle.eh_ring.specs.declared.counts.Counts.{Counts}
 use Rattle.eh_ring.specs.declared.entry.RingEntry.{RingEntry}
 use Rattle.eh_ring.specs.Category.{category_of}

@@ -2,9 +2,9 @@ ghost use Rattle.std.specs.Prelude.{◌≡◌, ◌+◌, ◌-◌, ◌<◌, ◌≤
 ghost use Rattle.circular_buffer.specs.Buffer.{keep_last};
 ghost use Rattle.eh_ring.specs.Bytes.{category_byte};
 
-use crate::class::Category;
 use crate::counts::Counts;
 use crate::entry::RingEntry;
+use crate::error_category::Category;
 use crate::rule::category;
 use ata_base::{Ms, OutOfMemory};
 use ata_lanes::count_cats;

@@ -1,7 +1,7 @@
 ghost use Rattle.std.specs.Prelude.{◌≡◌, ◌+◌, ◌<◌};
 ghost use Rattle.eh_verdict.specs.Table.{verdict_of};
 
-use crate::words::Verdict;
+use crate::error_verdict::Verdict;
 use ata_base::Ms;
 use eh_ring::Ring;
 
@@ -10,7 +10,7 @@ const SHORT: u64 = 300_000;
 
 const LONG: u64 = 600_000;
 
-/// The verdict over a ring at the time `now`: each word that a line of the table of windows adds whose condition
+/// The verdict over a ring at the time `now`: each word that a row of the table of windows adds whose condition
 /// holds. The windows are 5 and 10 minutes long, and begin at 0 where they would begin before it.
 pub fn verdict(r: &Ring, now: Ms) -> Verdict
     ensures { result ≡ verdict_of r.now now.n }
@@ -23,13 +23,13 @@ pub fn verdict(r: &Ring, now: Ms) -> Verdict
     });
     let dubious_wire = total(short.dbus, short.dtime) > 1;
     let dubious_queue = total(short.dtime, short.dunk) > 1;
-    let many = total(short.bus, short.time) + short.unk as u16 > 6;
+    let many_errors = total(short.bus, short.time) + short.unk as u16 > 6;
     let queue_errors = total(long.time, long.unk) > 3;
     let slow_errors = total(long.bus, long.time) > 3 || long.unk > 6;
     Verdict {
         ncq_off: dubious_queue || queue_errors,
         speed_down: dubious_wire || slow_errors,
-        pio: dubious_wire || many,
+        pio: dubious_wire || many_errors,
         keep: dubious_wire || dubious_queue,
     }
 }

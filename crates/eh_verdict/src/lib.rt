@@ -2,14 +2,11 @@
 #![tactic(auto)]
 
 mod action;
+mod error_verdict;
 mod judging;
 mod steps;
-mod words;
 
-pub use action::{SpeedAction, decide};
+pub use action::decide;
+pub use error_verdict::Verdict;
 pub use judging::verdict;
 pub use steps::{down_mode, down_speed};
-pub use words::Verdict;
-
-#[cfg(test)]
-mod tests;
