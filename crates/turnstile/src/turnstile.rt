@@ -8,8 +8,8 @@ use crate::kept::Kept;
 use crate::machine::Machine;
 use crate::out_of_memory::OutOfMemory;
 use crate::pass::Pass;
+use crate::seat_view::SeatView;
 use crate::steps::{Both, Cut, Draw, Law, Learn, Look, Mark, Serve};
-use crate::view::View;
 use atomic_table::{Refused, Seat, Table};
 use std::alloc::Global;
 use std::hint::spin_loop;
@@ -30,20 +30,25 @@ const MACHINE: usize = 0;
 /// A machine that callers enter one after the other, in the order in which they drew their tickets.
 #[derive(Drop)]
 pub struct Turnstile<M: Machine> {
-    table: Table<Option<M>, View<Entry<M::Move>, M>, Snapshot<M>, Law<M>, Global>,
+    table: Table<Option<M>, SeatView<Entry<M::Move>, M>, Snapshot<M>, Law<M>, Global>,
     ghost sized: { (table.shared.table_id.words ≡ 2) × (table.shared.table_id.slots ≡ 1) },
 }
 
 // Makes the entry, where there is memory for it.
-fn attempt<M: Machine>(machine: M, actor: u8, seq: u64, m: &M::Move) -> (M, Result<(), OutOfMemory>)
+fn attempt<M: Machine>(
+    machine: M,
+    actor: u8,
+    seq: u64,
+    step: &M::Move,
+) -> (M, Result<(), OutOfMemory>)
     requires actor { actor ≤ 31 }
     ensures fixed { M.fixed result.0 ≡ M.fixed machine }
-    ensures history { MatchResult result.1 (λ _. M.history result.0 ≡ M.history machine ++ record { actor = actor; seq = seq; step = m.now } ∷ []) (λ _. M.history result.0 ≡ M.history machine) }
+    ensures history { MatchResult result.1 (λ _. M.history result.0 ≡ M.history machine ++ record { actor = actor; seq = seq; step = step.now } ∷ []) (λ _. M.history result.0 ≡ M.history machine) }
 {
     let mut machine = machine;
     match machine.reserve() {
         Ok(()) => {
-            machine.step(actor, seq, m);
+            machine.step(actor, seq, step);
             (machine, Ok(()))
         }
         Err(error) => (machine, Err(error)),
@@ -74,7 +79,7 @@ impl<M: Machine> Turnstile<M> {
     }
 
     // Looks at the turn a few times, and says whether the ticket has it.
-    fn spin(&self, seat: &mut Seat<Option<M>, View<Entry<M::Move>, M>>, ticket: u64) -> bool
+    fn spin(&self, seat: &mut Seat<Option<M>, SeatView<Entry<M::Move>, M>>, ticket: u64) -> bool
         requires made { seat.old.table_id ≡ self.now.table.shared.table_id }
         requires waiting { IsWaiting seat.old.me ticket }
         ensures made { seat.new.table_id ≡ seat.old.table_id }
@@ -90,7 +95,7 @@ impl<M: Machine> Turnstile<M> {
     }
 
     // Draws a ticket and waits for its turn: awake for a short time, then asleep until the turn changes.
-    fn wait<R: Wait>(&self, rt: &R, seat: &mut Seat<Option<M>, View<Entry<M::Move>, M>>)
+    fn wait<R: Wait>(&self, rt: &R, seat: &mut Seat<Option<M>, SeatView<Entry<M::Move>, M>>)
         requires made { seat.old.table_id ≡ self.now.table.shared.table_id }
         requires idle { IsIdle seat.old.me × (1 ≤ seat.old.me.0.share) }
         ensures { (seat.new.table_id ≡ seat.old.table_id) × Admitted seat.old.me.0 seat.new.me }
@@ -114,22 +119,22 @@ impl<M: Machine> Turnstile<M> {
     fn take_turn<R: Wait>(
         &self,
         rt: &R,
-        seat: &mut Seat<Option<M>, View<Entry<M::Move>, M>>,
+        seat: &mut Seat<Option<M>, SeatView<Entry<M::Move>, M>>,
         actor: u8,
         seq: u64,
-        m: &M::Move,
+        step: &M::Move,
     ) -> Result<(), OutOfMemory>
         requires actor { actor ≤ 31 }
         requires made { seat.old.table_id ≡ self.now.table.shared.table_id }
         requires idle { IsIdle seat.old.me × (1 ≤ seat.old.me.0.share) }
         ensures made { seat.new.table_id ≡ seat.old.table_id }
         ensures in_order { Rises 0 seat.new.me.0.own }
-        ensures left { MatchResult result (λ _. Left seat.old.me.0 (Some (entry_of actor seq m.now)) seat.new.me) (λ _. Left seat.old.me.0 None seat.new.me) }
+        ensures left { MatchResult result (λ _. Left seat.old.me.0 (Some (entry_of actor seq step.now)) seat.new.me) (λ _. Left seat.old.me.0 None seat.new.me) }
     {
         self.wait(rt, seat);
         let shared = &self.table.shared;
         let machine = shared.exchange(seat, MACHINE, None).unwrap();
-        let (machine, made) = attempt(machine, actor, seq, m);
+        let (machine, made) = attempt(machine, actor, seq, step);
         drop(shared.exchange(seat, MACHINE, Some(machine)));
         shared.load::<Mark<M>>(seat, TURN);
         shared.fetch_add::<Serve>(seat, TURN, 1);
@@ -137,7 +142,7 @@ impl<M: Machine> Turnstile<M> {
         made
     }
 
-    /// Waits for a turn, and makes the step m of an actor, under this number, at the machine. Kept where there was no
+    /// Waits for a turn, and makes this step of an actor, under this number, at the machine. Kept where there was no
     /// memory for it in the turn. Who has a turn when isn't said.
     pub fn enter<R: Wait>(
         &self,
@@ -145,19 +150,19 @@ impl<M: Machine> Turnstile<M> {
         pass: Pass<M>,
         actor: u8,
         seq: u64,
-        m: &M::Move,
+        step: &M::Move,
     ) -> Result<Pass<M>, Kept<M>>
         requires actor { actor ≤ 31 }
         requires made { at pass ≡ place self.now }
         ensures made { MatchResult result (λ q. at q ≡ at pass) (λ k. at k.pass ≡ at pass) }
         ensures share { MatchResult result (λ q. share q ≡ share pass) (λ k. share k.pass ≡ share pass) }
         ensures seen { MatchResult result (λ q. IsPrefix (seen pass) (seen q)) (λ k. IsPrefix (seen pass) (seen k.pass)) }
-        ensures last { IfOk result (λ q. EndsWith (seen q) (entry_of actor seq m.now)) }
-        ensures own { IfOk result (λ q. own q ≡ own pass ++ (length (seen q) - 1, entry_of actor seq m.now) ∷ []) }
+        ensures last { IfOk result (λ q. EndsWith (seen q) (entry_of actor seq step.now)) }
+        ensures own { IfOk result (λ q. own q ≡ own pass ++ (length (seen q) - 1, entry_of actor seq step.now) ∷ []) }
         ensures kept { IfErr result (λ k. own k.pass ≡ own pass) }
     {
         let Pass { mut seat } = pass;
-        match self.take_turn(rt, &mut seat, actor, seq, m) {
+        match self.take_turn(rt, &mut seat, actor, seq, step) {
             Ok(()) => Ok(Pass { seat }),
             Err(OutOfMemory) => Err(Kept {
                 pass: Pass { seat },

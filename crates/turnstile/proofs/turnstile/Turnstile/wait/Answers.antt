@@ -1,6 +1,6 @@
 use Rattle.std.proofs.Common.{rules, ap, sym, subst, ◌∙◌}
 use Rattle.turnstile.specs.Views.{at_stage}
-use Rattle.turnstile.specs.declared.view.Stage.TheVariants.{Idle}
+use Rattle.turnstile.specs.declared.seat_view.Stage.TheVariants.{Idle}
 use Rattle.turnstile.specs.Steps.{IsWaiting, Admitted}
 use Rattle.turnstile.proofs.Seats.{draws_as, looks_as}
 use Rattle.turnstile.proofs.turnstile.Turnstile.wait.Goals as goal
