@@ -1,0 +1,14 @@
+pub mod Draft
+pub mod Drafts
+pub mod DrivePlaces
+pub mod Fields
+pub mod Forms
+pub mod Grammar
+pub mod Heads
+pub mod Items
+pub mod OfText
+pub mod Places
+pub mod Reader
+pub mod ScriptText
+pub mod Scripts
+pub mod Taking

@@ -1,7 +1,14 @@
 pub mod Entries
 pub mod Event
 pub mod Heads
+pub mod JournalView
 pub mod Lent
 pub mod Names
-pub mod Pages
+pub mod Parts
+pub mod Ranges
+pub mod Reading
+pub mod ScriptRanges
 pub mod Text
+pub mod Texts
+pub mod Told
+pub mod Words

@@ -1,9 +1,8 @@
-ghost use Rattle.std.specs.Prelude.{◌≡◌, ◌≤◌, ◌+◌, ◌++◌, ◌∷◌, [], codes, decimal, length};
+ghost use Rattle.std.specs.Prelude.{◌≡◌, ◌<◌, ◌≤◌, ◌+◌, ◌++◌, ◌∷◌, [], codes, decimal, length};
 ghost use Rattle.hex.specs.Hex.{encode_lower};
-ghost use Rattle.ata_trace.specs.Text.{byte_word};
+ghost use Rattle.ata_trace.specs.Words.{byte_word};
 
-use arrayvec::ArrayVec;
-use itoa::Buffer;
+use itoa::write_digits;
 use std::marker::Model;
 
 /// A line of text in the making: at most 512 bytes, and no memory. A contract sees it as the list of
@@ -12,19 +11,22 @@ use std::marker::Model;
 /// The words of a line stand one space apart: `text` begins it, `word`, `number`, `hex` and `frame`
 /// append a space and a word each, and `end` appends the line feed. Each of them needs room for what
 /// it appends.
-#[derive(Debug, Drop, PartialEq, Eq)]
+///
+/// Its bytes are the first `len` of `bytes`; what stands behind them is of no meaning.
+#[derive(Debug, Drop)]
 pub struct Line {
-    text: ArrayVec<u8, 512>,
+    bytes: [u8; 512],
+    len: usize,
 }
 
 impl Model for Line {
-    ghost use Rattle.std.specs.Prelude.{List, ℕ};
+    ghost use Rattle.std.specs.Prelude.{◌≡◌, ◌≤◌, List, ℕ, length, take};
 
     ghost Value = { List ℕ };
 
-    ghost view = { λ line. line.text.items };
+    ghost view = { λ line. take line.len line.bytes };
 
-    ghost inverse = { λ bytes. record { text = record { items = bytes } } };
+    ghost invariant = { λ line. (line.len ≤ 512) × (length line.bytes ≡ 512) };
 }
 
 impl Line {
@@ -33,7 +35,8 @@ impl Line {
         ensures { result ≡ [] }
     {
         Line {
-            text: ArrayVec::new(),
+            bytes: [0; 512],
+            len: 0,
         }
     }
 
@@ -42,7 +45,14 @@ impl Line {
         ensures value { result.now ≡ self.now }
         ensures short { length self.now ≤ 512 }
     {
-        self.text.as_slice()
+        &self.bytes[..self.len]
+    }
+
+    /// Takes all text out.
+    pub fn clear(&mut self)
+        ensures { self.new ≡ [] }
+    {
+        self.len = 0;
     }
 
     /// Appends these bytes as they are.
@@ -51,10 +61,10 @@ impl Line {
         ensures text { self.new ≡ self.old ++ piece.now }
         ensures len { length self.new ≡ length self.old + length piece.now }
     {
-        match self.text.try_extend_from_slice(piece) {
-            Ok(()) => (),
-            Err(_) => unreachable!(),
-        }
+        let start = self.len;
+        let end = start + piece.len();
+        self.bytes[start..end].copy_from_slice(piece);
+        self.len = end;
     }
 
     /// Appends a space and this word.
@@ -73,8 +83,23 @@ impl Line {
         ensures text { self.new ≡ self.old ++ 32 ∷ decimal n }
         ensures len { length self.new ≤ length self.old + 21 }
     {
-        let mut buffer = Buffer::new();
-        self.word(buffer.format(n).as_bytes());
+        if n < 10 {
+            self.text(&[b' ', b'0' + n as u8]);
+        } else {
+            self.digits(n);
+        }
+    }
+
+    // The same of any number, in place.
+    fn digits(&mut self, n: u64)
+        requires { length self.old + 21 ≤ 512 }
+        ensures text { self.new ≡ self.old ++ 32 ∷ decimal n }
+        ensures len { length self.new ≤ length self.old + 21 }
+    {
+        self.text(b" ");
+        let end = self.len + digit_count(n);
+        let _start = write_digits(n, &mut self.bytes, end);
+        self.len = end;
     }
 
     /// Appends a space and the byte as two lower-case hexadecimal digits.
@@ -110,5 +135,36 @@ impl Line {
         ensures len { length self.new ≡ length self.old + 1 }
     {
         self.text(b"\n");
+    }
+}
+
+// How many decimal digits a number has.
+fn digit_count(n: u64) -> usize
+    ensures value { result ≡ length (decimal n) }
+    ensures most { result ≤ 20 }
+{
+    let mut left = n;
+    let mut count = 0;
+    while left >= 10_000 {
+        left /= 10_000;
+        count += 4;
+    }
+    count + short_count(left)
+}
+
+// How many decimal digits a number below 10,000 has.
+fn short_count(n: u64) -> usize
+    requires { n < 10000 }
+    ensures value { result ≡ length (decimal n) }
+    ensures most { result ≤ 4 }
+{
+    if n < 10 {
+        1
+    } else if n < 100 {
+        2
+    } else if n < 1000 {
+        3
+    } else {
+        4
     }
 }

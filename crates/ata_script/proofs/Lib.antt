@@ -1,0 +1,17 @@
+pub mod DraftsAdded
+pub mod DraftsGood
+pub mod DrivesAdded
+pub mod Forms
+pub mod HeadForms
+pub mod LineLemmas
+pub mod LinesTaken
+pub mod LinesWritten
+pub mod NameTests
+pub mod NumberTests
+pub mod PortWords
+pub mod PortsPut
+pub mod Rules
+pub mod Sizes
+pub mod SmallWords
+pub mod StepForms
+pub mod TextsRead
