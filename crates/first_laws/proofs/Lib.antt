@@ -1,0 +1,13 @@
+pub mod Allowed
+pub mod Answering
+pub mod Counts
+pub mod Known
+pub mod Legal
+pub mod Links
+pub mod Once
+pub mod Silent
+pub mod Sizes
+pub mod Stamps
+pub mod Starting
+pub mod Success
+pub mod Tags

@@ -1,0 +1,2 @@
+pub mod CommandFlagLemmas
+pub mod WaitLemmas

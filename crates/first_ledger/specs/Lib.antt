@@ -1,0 +1,5 @@
+pub mod CommandFlags
+pub mod LedgerView
+pub mod Parts
+pub mod Sound
+pub mod Tracks

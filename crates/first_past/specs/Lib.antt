@@ -1,0 +1,12 @@
+pub mod Accepted
+pub mod Clock
+pub mod Device
+pub mod Drive
+pub mod Finished
+pub mod Gate
+pub mod Issues
+pub mod Line
+pub mod Queues
+pub mod Sectors
+pub mod Slots
+pub mod Steps

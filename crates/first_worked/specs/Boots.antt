@@ -1,0 +1,19 @@
+use Rattle.std.specs.Prelude.{true, false, List, [], ◌∷◌, codes}
+use Rattle.ata_trace.specs.declared.act.Act.{Act}
+use Rattle.ata_trace.specs.declared.act.Act.TheVariants.{Identified, Attached, Mode, Nothing}
+
+-- the acts of the boot of a port without a drive
+abbrev pub no_drive_found : List Act
+no_drive_found = Nothing ∷ []
+
+-- the acts of the boot where the drive has no queue
+abbrev pub unqueued_found : List Act
+unqueued_found = Identified 0 (codes "ALPHA") (codes "S1") 4096 0 ∷ Attached 0 ∷ Mode 0 6 false true ∷ []
+
+-- the acts of the boot where the drive queues two commands
+abbrev pub shallow_found : List Act
+shallow_found = Identified 0 (codes "ALPHA") (codes "S1") 4096 2 ∷ Attached 0 ∷ Mode 0 6 true true ∷ []
+
+-- the acts of the boot where the drive queues 32 commands
+abbrev pub queued_found : List Act
+queued_found = Identified 0 (codes "ALPHA") (codes "S1") 4096 32 ∷ Attached 0 ∷ Mode 0 6 true true ∷ []

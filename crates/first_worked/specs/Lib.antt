@@ -1,0 +1,14 @@
+pub mod Acts
+pub mod AnswersInTagOrder
+pub mod BehindTheGate
+pub mod Boots
+pub mod Bytes
+pub mod EveryOperation
+pub mod FlushBetweenQueuedWrites
+pub mod Heads
+pub mod Names
+pub mod Refusals
+pub mod Rows
+pub mod ShallowQueue
+pub mod ThirtyTwoTags
+pub mod WriteThenRead

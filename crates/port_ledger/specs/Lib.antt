@@ -1,5 +1,0 @@
-pub mod Book
-pub mod Parts
-pub mod Sound
-pub mod Standings
-pub mod Tracks
