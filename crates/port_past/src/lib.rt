@@ -1,10 +1,17 @@
-//! The past of a port and its readings: what the events so far say of the clock, the queues, the
-//! issues in flight, the drive and the interrupt line. The definitions stand in `specs/`, a file a
-//! notion; here are the records that they speak of.
+//! The past of a port and its readings: what the events so far say. The definitions stand in `specs/`, a file
+//! a notion; here are the records that they speak of.
 #![tactic(auto)]
 
-mod finished;
-mod held;
+mod completion;
+mod identity_told;
+mod judgement;
+mod log_of;
+mod place_told;
+mod task;
 
-pub use finished::Finished;
-pub use held::Held;
+pub use completion::Completion;
+pub use identity_told::IdentityTold;
+pub use judgement::Judgement;
+pub use log_of::LogOf;
+pub use place_told::{HostTold, PlaceTold};
+pub use task::Task;

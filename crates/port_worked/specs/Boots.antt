@@ -1,4 +1,4 @@
-use Rattle.std.specs.Prelude.{true, false, List, [], ◌∷◌, codes}
+use Rattle.std.specs.Prelude.{true, false, List, [], ◌∷◌, ◌++◌, codes}
 use Rattle.ata_trace.specs.declared.act.Act.{Act}
 use Rattle.ata_trace.specs.declared.act.Act.TheVariants.{Identified, Attached, Mode, Nothing}
 
@@ -17,3 +17,7 @@ shallow_found = Identified 0 (codes "ALPHA") (codes "S1") 4096 2 ∷ Attached 0 
 -- the acts of the boot where the drive queues 32 commands
 abbrev pub queued_found : List Act
 queued_found = Identified 0 (codes "ALPHA") (codes "S1") 4096 32 ∷ Attached 0 ∷ Mode 0 6 true true ∷ []
+
+-- the acts of the boot where a second drive stands at place 1
+abbrev pub two_found : List Act
+two_found = queued_found ++ Identified 1 (codes "ALPHA") (codes "S2") 4096 32 ∷ Attached 1 ∷ Mode 1 6 true true ∷ []

@@ -1,6 +1,6 @@
 ghost use Rattle.std.specs.Prelude.{◌≡◌, ◌∷◌, []};
 ghost use Rattle.ata_trace.specs.declared.act.Act.TheVariants.{Deferred, Frozen, Thawed, Requested, Begun, Ended, Nothing};
-ghost use Rattle.ata_trace.specs.declared.deferral.Deferral.TheVariants as why;
+ghost use Rattle.ata_base.specs.declared.deferral.Deferral.TheVariants as why;
 ghost use Rattle.ata_trace.specs.declared.step.Step.TheVariants.{Kick, Irq};
 ghost use Rattle.port_worked.specs.BehindTheGate.{one_waits, one_is_done, acts_behind, its_issue, its_answer};
 

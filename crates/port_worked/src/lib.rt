@@ -1,13 +1,27 @@
 //! Worked journals, computed from the rules of a port alone. Each function has an empty body, and its
 //! clause says that the one legal journal of some steps is the one written down; the rows stand in
-//! `specs/`, a file a run.
+//! `specs/`, a file a run, each for the mechanism that it shows.
 #![tactic(auto)]
 
+mod drains;
+mod errors;
 mod gate;
+mod places;
+mod plugs;
 mod runs;
+mod timeouts;
 
+pub use drains::{gives_up_waiting, progress_before_giving_up};
+pub use errors::{faults_of_the_log, lost_identity, media_error_among_queued, slower_speed};
 pub use gate::{interrupts_behind_the_gate, kicks_behind_the_gate};
+pub use places::{
+    exclusive_place, hot_place_after_host_reset, owned_is_not_answered, two_places_in_flight,
+};
+pub use plugs::{another_drive, three_phy_changes};
 pub use runs::{
     answers_in_tag_order, every_operation, flush_between_queued_writes, no_drive, refusals,
     shallow_queue, thirty_two_tags, write_then_read,
+};
+pub use timeouts::{
+    completed_before_recovery, hang, late_but_done, lost_interrupt, second_hang, slow_drive,
 };

@@ -1,0 +1,4 @@
+pub mod Frames
+pub mod RecoverByPhase
+pub mod Settling
+pub mod TagByTag

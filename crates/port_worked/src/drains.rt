@@ -1,0 +1,17 @@
+ghost use Rattle.std.specs.Prelude.{◌≡◌};
+ghost use Rattle.port_rules.specs.Run.{run};
+ghost use Rattle.port_worked.specs.Boots.{queued_found};
+ghost use Rattle.port_worked.specs.GivesUpWaiting.{gives_up_waiting_rows};
+ghost use Rattle.port_worked.specs.Heads.{drained};
+ghost use Rattle.port_worked.specs.ProgressBeforeGivingUp.{progress_before_giving_up_rows};
+ghost use Rattle.port_worked.specs.Rows.{calls, journal};
+
+/// Gives up waiting: a port with fast drain waits 3,000 ms for a command that doesn't come.
+pub fn gives_up_waiting()
+    ensures { run drained (calls gives_up_waiting_rows) ≡ journal queued_found gives_up_waiting_rows }
+{}
+
+/// Progress before giving up: an answer begins the 3,000 ms anew.
+pub fn progress_before_giving_up()
+    ensures { run drained (calls progress_before_giving_up_rows) ≡ journal queued_found progress_before_giving_up_rows }
+{}
