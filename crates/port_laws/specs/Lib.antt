@@ -1,8 +1,8 @@
-pub mod Asked
+pub mod Ending
+pub mod Judgements
 pub mod Links
-pub mod Moments
 pub mod Once
 pub mod Silent
-pub mod Stamps
+pub mod Statuses
 pub mod Success
 pub mod Tags

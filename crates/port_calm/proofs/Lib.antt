@@ -1,0 +1,16 @@
+pub mod Accepting
+pub mod Answering
+pub mod Booting
+pub mod Finishing
+pub mod Issuing
+pub mod Journals
+pub mod Kicking
+pub mod Lists
+pub mod Resting
+pub mod Rounds
+pub mod Serving
+pub mod Settling
+pub mod Sight
+pub mod Slots
+pub mod Standing
+pub mod Working
