@@ -1,0 +1,2 @@
+pub mod FewPorts
+pub mod TakenSteps

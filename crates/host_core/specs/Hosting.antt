@@ -1,0 +1,16 @@
+use Rattle.std.specs.Prelude.{◌≡◌, ◌<◌, ℕ, List, length, slice_index}
+use Rattle.ata_script.specs.declared.port_head.PortHead.{PortHead}
+use Rattle.ata_trace.specs.declared.step.Step.{Step}
+use Rattle.port_core.specs.Hosts.{heads_in, journals_in}
+use Rattle.port_core.specs.PortView.{PortView}
+use Rattle.port_core.specs.Weave.{count_of, journals_of}
+
+-- a port for each head, at which these steps were taken
+pub record IsHostOf (heads : List PortHead) (steps : List (ℕ × ℕ × Step)) (ports : List PortView) : Type 0 where
+  pub same : heads_in ports ≡ heads
+  pub journals : journals_in ports ≡ journals_of heads steps
+
+-- by actor, how many of these steps each took
+pub record AreCounted (counts : List ℕ) (steps : List (ℕ × Step)) : Type 0 where
+  pub all : length counts ≡ 32
+  pub each : (actor : ℕ) → actor < 32 → slice_index counts actor ≡ count_of actor steps
