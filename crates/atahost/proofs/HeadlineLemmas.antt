@@ -1,43 +1,93 @@
-use Rattle.std.proofs.Common.{◌≡◌, ℕ, ◌≤◌, List, Option, Some, None, length, take, subst, IfSome}
-use Rattle.std.specs.Io.KnownBytes.{Appends}
-use Rattle.ata_base.specs.declared.identity.Identity.{Identity}
-use Rattle.ata_script.specs.declared.port_head.PortHead.{PortHead}
-use Rattle.ata_trace.specs.Entries.{Record, past_of}
-use Rattle.ata_trace.specs.declared.step.Step.{Step}
-use Rattle.atahost.specs.Headline.{Replayed, CutShort}
-use Rattle.atahost.specs.Journals.{IsHeadOf, IsJournalOf, journal_of}
-use Rattle.first_form.specs.Scripts.{IsScript}
-use Rattle.port_core.specs.Text.{port_text}
-use Rattle.port_past.specs.Accepted.{live}
+use Rattle.std.proofs.Common.{◌≡◌, ℕ, ◌≤◌, Bool, true, false, IsTrue, List, [], ◌∷◌, Option, length, take, refl, sym, subst}
+use Rattle.std.specs.Io.KnownBytes.{Appends, IsAtEnd}
+use Rattle.ata_io.specs.Writing.{WritesPart}
+use Rattle.ata_script.specs.declared.script.Script.{Script}
+use Rattle.ata_trace.specs.Entries.{EntryView}
+use Rattle.atahost.specs.Headline.{Replayed, CutShort, Replays}
+use Rattle.atahost.specs.Journals.{AreJournalsOf}
+use Rattle.atahost.specs.Printing.{Prints}
+use Rattle.atahost.specs.Refusals.{Refuses, WasRead}
+use Rattle.atahost.specs.Statuses.{read_faults_after, write_faults_after}
+use Rattle.atahost.specs.declared.status.Status.{Status}
+use Rattle.atahost.specs.declared.status.Status.TheVariants.{Done, Usage, Left, BadScript, TooLong, ReadFault, WriteFault, OutOfMemory}
+use Rattle.port_core.specs.Hosts.{lives_of}
+use Rattle.port_core.specs.Text.{texts_of}
+use Rattle.port_core.specs.Weave.{journals_of}
 
--- some bytes are a script with this identity and these steps, and all that was left to read
-abbrev pub WasRead : Option (List ℕ) → Identity → List Step → Type 0
-WasRead left identity steps = (bytes : List ℕ) × IfSome left (λ all. all ≡ bytes) × IsScript bytes identity steps
+-- a script was read, and its journals made
+pub record WasPlayed (left : Option (List ℕ)) (script : Script) (journals : List (List EntryView)) : Type 0 where
+  pub read : WasRead left script
+  pub made : journals ≡ journals_of script.head script.steps
 
--- what follows from each value follows from a value that there may be
-pub if_some : (o : Option ℕ) (P Q : ℕ → Type 0) → ((k : ℕ) → P k → Q k) → IfSome o P → IfSome o Q
-if_some None P Q follows says = says
-if_some (Some k) P Q follows says = follows k says
-
--- a script was read, its journal was made, and the text was written
-pub replayed : (left before after : Option (List ℕ)) (identity : Identity) (steps : List Step) (head : PortHead) (number : ℕ) (entries : List Record) (k : ℕ) → WasRead left identity steps → IsHeadOf identity head → entries ≡ journal_of head steps → number ≡ 0 → Appends before after (port_text number entries) × (k ≡ length (live (past_of entries))) → Replayed left before after k
-replayed left before after identity steps head number entries k read declared made first told = record {
-  bytes = read.0;
-  entries = entries;
-  read = read.1;
-  journal = record { identity = identity; steps = steps; head = head; script = read.2; declared = declared; made = made };
-  written = subst (λ (n : ℕ). Appends before after (port_text n entries)) first told.0;
-  live = told.1;
+journals_made : (left : Option (List ℕ)) (script : Script) (journals : List (List EntryView)) → (p : WasPlayed left script journals) → AreJournalsOf p.read.bytes journals
+journals_made left script journals p = record {
+  script = script;
+  read = p.read.text;
+  built = p.read.built;
+  made = p.made;
 }
 
--- a script was read, its journal was made, and a part of the text was written
-pub cut_short : (left before after : Option (List ℕ)) (identity : Identity) (steps : List Step) (head : PortHead) (number : ℕ) (entries : List Record) → WasRead left identity steps → IsHeadOf identity head → entries ≡ journal_of head steps → number ≡ 0 → (n : ℕ) × (n ≤ length (port_text number entries)) × Appends before after (take n (port_text number entries)) → CutShort left before after
-cut_short left before after identity steps head number entries read declared made first part = record {
-  bytes = read.0;
-  entries = entries;
-  read = read.1;
-  journal = record { identity = identity; steps = steps; head = head; script = read.2; declared = declared; made = made };
+-- its text was written
+replayed : (left before after : Option (List ℕ)) (script : Script) (journals : List (List EntryView)) (k : ℕ) → WasPlayed left script journals → Appends before after (texts_of journals) → lives_of journals ≡ k → Replayed left before after k
+replayed left before after script journals k p whole count = record {
+  bytes = p.read.bytes;
+  journals = journals;
+  read = p.read.all;
+  within = p.read.within;
+  made = journals_made _ _ _ p;
+  written = whole;
+  live = sym count;
+}
+
+-- a part of its text was written
+cut_short : (left before after : Option (List ℕ)) (script : Script) (journals : List (List EntryView)) → WasPlayed left script journals → WritesPart before after (texts_of journals) → CutShort left before after
+cut_short left before after script journals p part = record {
+  bytes = p.read.bytes;
+  journals = journals;
+  read = p.read.all;
+  within = p.read.within;
+  made = journals_made _ _ _ p;
   count = part.0;
-  within = subst (λ (n : ℕ). part.0 ≤ length (port_text n entries)) first part.1;
-  written = subst (λ (n : ℕ). Appends before after (take part.0 (port_text n entries))) first part.2;
+  part = part.1;
+  written = part.2;
 }
+
+not_true : IsTrue false → ⊥
+not_true h = cc
+
+-- a replay that printed
+pub printed : {S K : Type 0} (left : S → Option (List ℕ)) (reads : S → ℕ) (written : K → Option (List ℕ)) (writes : K → ℕ) (source rest : S) (sink after : K) (status : Status) (script : Script) (journals : List (List EntryView)) → WasPlayed (left source) script journals → IsAtEnd (left rest) → reads rest ≡ reads source → Prints (written sink) (written after) (texts_of journals) (lives_of journals) status → writes after ≡ write_faults_after status (writes sink) → Replays left reads written writes source rest sink after status
+printed left reads written writes source rest sink after Done script journals p end same told count = record {
+  told = (replayed _ _ _ script journals 0 p told.0 told.1, end);
+  read = same;
+  write = count;
+  nothing_written = λ no. absurd (not_true no);
+}
+printed left reads written writes source rest sink after (Left k) script journals p end same told count = record {
+  told = (told.2, replayed _ _ _ script journals k p told.0 told.1, end);
+  read = same;
+  write = count;
+  nothing_written = λ no. absurd (not_true no);
+}
+printed left reads written writes source rest sink after WriteFault script journals p end same told count = record {
+  told = (cut_short _ _ _ script journals p told, end);
+  read = same;
+  write = count;
+  nothing_written = λ no. absurd (not_true no);
+}
+printed left reads written writes source rest sink after Usage script journals p end same told count = absurd told
+printed left reads written writes source rest sink after (BadScript line rule) script journals p end same told count = absurd told
+printed left reads written writes source rest sink after TooLong script journals p end same told count = absurd told
+printed left reads written writes source rest sink after ReadFault script journals p end same told count = absurd told
+printed left reads written writes source rest sink after OutOfMemory script journals p end same told count = absurd told
+
+-- a replay that was refused a script
+pub refused : {S K : Type 0} (left : S → Option (List ℕ)) (reads : S → ℕ) (written : K → Option (List ℕ)) (writes : K → ℕ) (source rest : S) (sink : K) (status : Status) → Refuses (left source) (left rest) status → reads rest ≡ read_faults_after status (reads source) → Replays left reads written writes source rest sink sink status
+refused left reads written writes source rest sink (BadScript line rule) why count = record { told = why; read = count; write = refl; nothing_written = λ _. refl }
+refused left reads written writes source rest sink TooLong why count = record { told = why; read = count; write = refl; nothing_written = λ _. refl }
+refused left reads written writes source rest sink ReadFault why count = record { told = why; read = count; write = refl; nothing_written = λ _. refl }
+refused left reads written writes source rest sink OutOfMemory why count = record { told = why; read = count; write = refl; nothing_written = λ _. refl }
+refused left reads written writes source rest sink Done why count = absurd why
+refused left reads written writes source rest sink Usage why count = absurd why
+refused left reads written writes source rest sink (Left k) why count = absurd why
+refused left reads written writes source rest sink WriteFault why count = absurd why

@@ -1,3 +1,3 @@
 mod JournalLemmas
-mod RunLemmas
 pub mod HeadlineLemmas
+pub mod RefusalLemmas

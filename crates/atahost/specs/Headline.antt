@@ -1,41 +1,68 @@
-use Rattle.std.specs.Prelude.{◌≡◌, ◌≤◌, ◌<◌, ℕ, List, Option, IfSome, length, take}
-use Rattle.std.specs.Io.KnownBytes.{Appends}
-use Rattle.ata_base.specs.declared.identity.Identity.{Identity}
-use Rattle.ata_trace.specs.Entries.{Record, past_of}
-use Rattle.ata_trace.specs.declared.step.Step.{Step}
-use Rattle.atahost.specs.Journals.{IsJournalOf}
-use Rattle.first_form.specs.Scripts.{IsScript}
-use Rattle.port_core.specs.Text.{port_text}
-use Rattle.port_past.specs.Accepted.{live}
+use Rattle.std.specs.Prelude.{◌≡◌, ◌≤◌, ◌<◌, ℕ, List, Option, Some, IfSome, IsTrue, ⊤, length, take}
+use Rattle.std.specs.Io.KnownBytes.{Appends, IsAtEnd}
+use Rattle.ata_trace.specs.Entries.{EntryView}
+use Rattle.atahost.specs.Built.{refusal_of}
+use Rattle.atahost.specs.Journals.{AreJournalsOf}
+use Rattle.atahost.specs.Statuses.{is_unprinted, read_faults_after, write_faults_after}
+use Rattle.atahost.specs.declared.status.Status.{Status}
+use Rattle.atahost.specs.declared.status.Status.TheVariants.{Done, Usage, Left, BadScript, TooLong, ReadFault, WriteFault, OutOfMemory}
+use Rattle.port_core.specs.Hosts.{lives_of}
+use Rattle.port_core.specs.Text.{texts_of}
 
 -- the most bytes that a script may have
 abbrev pub most_bytes : ℕ
 most_bytes = 4194304
 
--- what was left to read is a script, the text of its journal was written, and so many of its commands
--- are live at the end; where the source or the sink doesn't tell, nothing is said of it
+-- what was left to read is a script of at most the most bytes, the texts of its journals were written in
+-- the order of the ports, and so many of its commands are live at the end; where the source or the sink doesn't tell, nothing
+-- is said of it
 pub record Replayed (left before after : Option (List ℕ)) (k : ℕ) : Type 0 where
   pub bytes : List ℕ
-  pub entries : List Record
+  pub journals : List (List EntryView)
   pub read : IfSome left (λ all. all ≡ bytes)
-  pub journal : IsJournalOf bytes entries
-  pub written : Appends before after (port_text 0 entries)
-  pub live : k ≡ length (live (past_of entries))
+  pub within : length bytes ≤ most_bytes
+  pub made : AreJournalsOf bytes journals
+  pub written : Appends before after (texts_of journals)
+  pub live : k ≡ lives_of journals
 
--- what was left to read is a script, and the first bytes of the text of its journal were written
+-- what was left to read is a script of at most the most bytes, and the first bytes of the texts of its
+-- journals were written
 pub record CutShort (left before after : Option (List ℕ)) : Type 0 where
   pub bytes : List ℕ
-  pub entries : List Record
+  pub journals : List (List EntryView)
   pub read : IfSome left (λ all. all ≡ bytes)
-  pub journal : IsJournalOf bytes entries
+  pub within : length bytes ≤ most_bytes
+  pub made : AreJournalsOf bytes journals
   pub count : ℕ
-  pub within : count ≤ length (port_text 0 entries)
-  pub written : Appends before after (take count (port_text 0 entries))
+  pub part : count ≤ length (texts_of journals)
+  pub written : Appends before after (take count (texts_of journals))
 
--- no script has these bytes
-abbrev pub IsNoScript : List ℕ → Type 0
-IsNoScript bytes = (identity : Identity) → (steps : List Step) → IsScript bytes identity steps → ⊥
+-- at most the most bytes of a script, which aren't played for this line and rule
+pub record IsRefused (line rule : ℕ) (bytes : List ℕ) : Type 0 where
+  pub within : length bytes ≤ most_bytes
+  pub refusal : refusal_of bytes ≡ Some (line, rule)
 
 -- more than the most bytes of a script
 abbrev pub IsTooLong : List ℕ → Type 0
 IsTooLong bytes = most_bytes < length bytes
+
+-- what a status tells of the bytes that were left to read, of those that are left now, and of those
+-- that were written before and after
+abbrev pub Tells : Option (List ℕ) → Option (List ℕ) → Option (List ℕ) → Option (List ℕ) → Status → Type 0
+Tells left rest before after Done = Replayed left before after 0 × IsAtEnd rest
+Tells left rest before after (Left k) = (0 < k) × Replayed left before after k × IsAtEnd rest
+Tells left rest before after (BadScript line rule) = IfSome left (IsRefused line rule) × IsAtEnd rest
+Tells left rest before after TooLong = IfSome left IsTooLong
+Tells left rest before after WriteFault = CutShort left before after × IsAtEnd rest
+Tells left rest before after Usage = ⊤
+Tells left rest before after ReadFault = ⊤
+Tells left rest before after OutOfMemory = ⊤
+
+-- a call that reads a script and prints its journals: what its status tells holds, a fault was counted
+-- exactly where it says so, and nothing was written where it ended before the first line. The source
+-- and the sink are told by these functions of them
+pub record Replays {S K : Type 0} (left : S → Option (List ℕ)) (read_faults : S → ℕ) (written : K → Option (List ℕ)) (write_faults : K → ℕ) (source rest : S) (sink after : K) (status : Status) : Type 0 where
+  pub told : Tells (left source) (left rest) (written sink) (written after) status
+  pub read : read_faults rest ≡ read_faults_after status (read_faults source)
+  pub write : write_faults after ≡ write_faults_after status (write_faults sink)
+  pub nothing_written : IsTrue (is_unprinted status) → after ≡ sink

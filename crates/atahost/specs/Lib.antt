@@ -1,5 +1,7 @@
+pub mod Built
 pub mod Headline
 pub mod Journals
+pub mod Printing
 pub mod Refusals
 pub mod Statuses
 pub mod Words

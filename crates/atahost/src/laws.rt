@@ -1,13 +1,13 @@
 ghost use Rattle.std.specs.Prelude.{◌≡◌, ℕ, List};
-ghost use Rattle.ata_trace.specs.Entries.{Record};
-ghost use Rattle.atahost.specs.Journals.{IsJournalOf};
+ghost use Rattle.ata_trace.specs.Entries.{EntryView};
+ghost use Rattle.atahost.specs.Journals.{AreJournalsOf};
 
-use first_form::one_script;
+use ata_script::one_script;
 
-/// The law that no bytes have two journals: the entries follow from the bytes. It does nothing.
-pub fn one_journal()
-    ensures { (bytes : List ℕ) → (these those : List Record)
-        → IsJournalOf bytes these → IsJournalOf bytes those → these ≡ those }
+/// The law that no bytes have two lists of journals: they follow from the bytes. It does nothing.
+pub fn one_list_of_journals()
+    ensures { (bytes : List ℕ) → (these those : List (List EntryView))
+        → AreJournalsOf bytes these → AreJournalsOf bytes those → these ≡ those }
 {
     one_script();
 }

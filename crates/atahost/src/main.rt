@@ -1,10 +1,10 @@
-//! The program: `atahost replay` reads a script from standard input and writes the journal of its
-//! port to standard output. Its exit status tells how that ended; where it isn't 0, a line on standard
+//! The program: `atahost replay` reads a script from standard input and writes the journals of its
+//! ports to standard output. Its exit status tells how that ended; where it isn't 0, a line on standard
 //! error tells it too.
 #![tactic(auto)]
 
+mod built;
 mod laws;
-mod play;
 mod replay;
 mod status;
 mod top;

@@ -1,9 +1,8 @@
 ghost use Rattle.std.specs.Prelude.{◌≤◌};
 
-use crate::play::play;
-use ata_base::{ActorNo, Allowance, CmdId, Op, Pick, Place, Wait};
-use ata_trace::{Line, Step, Who, act_line};
-use first_form::read;
+use ata_base::{ActorNo, Allowance, CmdId, Op, Pick, Place, PortNo, Wait};
+use ata_script::read;
+use ata_trace::{ScriptOp, Step, Who, act_line, head_line};
 use port_core::Port;
 use std::alloc::Global;
 use std::process::Abort;
@@ -13,35 +12,56 @@ const HEAD: &str = "atahost 1\nport 0 direct\ndrive 0 0 0 ALPHA S1 4096 32 3 0\n
 
 // A port whose drive queues 32 commands, after its boot.
 fn booted(rt: &impl Abort, alloc: Global) -> Result<Port, Fail> {
-    match read(alloc, HEAD.as_bytes()) {
-        Ok(script) => Ok(play(alloc, &script)?),
+    let script = match read(alloc, HEAD.as_bytes()) {
+        Ok(script) => script,
         Err(_) => panic!(rt; "the head wasn't read"),
+    };
+    match script.head.items() {
+        [head] => Ok(Port::start(alloc, PortNo::at(0), head)?),
+        _ => panic!(rt; "there isn't one port"),
     }
 }
 
-// The line of the first act that a step of actor 0 tells.
-fn told(rt: &impl Abort, port: &mut Port, seq: u64, step: &Step) -> Result<Line, Fail> {
+// The lines of the entry that a step of actor 0 makes: its head, and each act.
+fn entry_of(
+    rt: &impl Abort,
+    alloc: Global,
+    port: &mut Port,
+    seq: u64,
+    step: &Step,
+) -> Result<String, Fail> {
     port.reserve()?;
-    port.step(Who::Actor(ActorNo::new(0).unwrap()), seq, step);
-    match port.journal().entry(port.journal().len() - 1) {
-        Some(entry) => Ok(act_line(&entry.acts[0])),
+    let before = port.journal().len();
+    port.step(Who::Actor(ActorNo::at(0)), seq, step);
+    let entry = match port.journal().entry(before) {
+        Some(entry) => entry,
         None => panic!(rt; "no entry was made"),
+    };
+    let mut lines = head_line(entry.at, entry.who, entry.seq, &entry.step)
+        .bytes()
+        .to_vec(alloc)?;
+    for act in entry.acts {
+        lines.extend_from_slice(act_line(act).bytes())?;
+    }
+    match String::from_utf8(lines) {
+        Ok(text) => Ok(text),
+        Err(_) => panic!(rt; "a line isn't text"),
     }
 }
 
 fn home() -> Place {
-    Place::new(0).unwrap()
+    Place::at(0)
 }
 
-fn submit(id: u16, op: Op) -> Step
+fn submit(rt: &impl Abort, id: u16, op: Op) -> Step
     requires { 1 ≤ id }
 {
     Step::Submit {
-        id: CmdId::new(id).unwrap(),
+        id: CmdId::at(id),
         place: home(),
-        op,
-        allow: Allowance::new(5).unwrap(),
-        wait: Wait::new(30000).unwrap(),
+        op: ScriptOp::new(op).expect(rt, "an operation of a script"),
+        allow: Allowance::at(5),
+        wait: Wait::at(30000),
     }
 }
 
@@ -52,40 +72,48 @@ fn kick() -> Step {
 fn work() -> Step {
     Step::Work {
         place: home(),
-        pick: Pick::new(0).unwrap(),
+        pick: Pick::at(0),
     }
 }
 
 #[test]
 fn of_33_reads_32_are_issued(rt: HostRuntime) -> Result<(), Fail> {
-    let mut port = booted(&rt, rt.alloc())?;
-    for id in 1..34 {
-        let read = submit(id, Op::Read { lba: 0, count: 1 });
-        let line = told(&rt, &mut port, 0, &read)?;
-        let want = format!(in rt.alloc(); "- accepted {id}\n")?;
-        assert_eq!(rt; line.bytes(), want.as_bytes());
+    let alloc = rt.alloc();
+    let mut port = booted(&rt, alloc)?;
+    for id in 1..34u16 {
+        let seq = u64::from(id) - 1;
+        let read = submit(&rt, id, Op::Read { lba: 0, count: 1 });
+        let want = format!(in alloc;
+            "at 0 0 {seq} submit {id} 0 read 0 1 5 30000\n- accepted {id}\n"
+        )?;
+        assert_eq!(rt; entry_of(&rt, alloc, &mut port, seq, &read)?, want);
     }
     for tag in 0..32u64 {
-        let line = told(&rt, &mut port, 0, &kick())?;
+        let seq = tag + 33;
         let id = tag + 1;
-        let want = format!(in rt.alloc();
-            "- issued {id} {id} {tag} 30000 278060010000004000000000{:02x}00000000000000\n",
+        let want = format!(in alloc;
+            "at 0 0 {seq} kick 0\n- issued {id} {id} {tag} 30000 278060010000004000000000{:02x}00000000000000\n",
             tag.wrapping_mul(8)
         )?;
-        assert_eq!(rt; line.bytes(), want.as_bytes());
+        assert_eq!(rt; entry_of(&rt, alloc, &mut port, seq, &kick())?, want);
     }
-    let line = told(&rt, &mut port, 0, &kick())?;
-    assert_eq!(rt; line.bytes(), b"- deferred 33 no-tag\n".as_slice());
+    assert_eq!(rt;
+        entry_of(&rt, alloc, &mut port, 65, &kick())?.as_str(),
+        "at 0 0 65 kick 0\n- deferred 33 no-tag\n"
+    );
     assert_eq!(rt; port.live(), 33);
     Ok(())
 }
 
 #[test]
 fn a_flush_waits_between_queued_writes(rt: HostRuntime) -> Result<(), Fail> {
-    let mut port = booted(&rt, rt.alloc())?;
-    for (step, want) in [
+    let alloc = rt.alloc();
+    let mut port = booted(&rt, alloc)?;
+    for (seq, step, want) in [
         (
+            0,
             submit(
+                &rt,
                 1,
                 Op::Write {
                     lba: 0,
@@ -93,11 +121,17 @@ fn a_flush_waits_between_queued_writes(rt: HostRuntime) -> Result<(), Fail> {
                     stamp: 7,
                 },
             ),
-            "- accepted 1\n",
+            "at 0 0 0 submit 1 0 write 0 8 7 5 30000\n- accepted 1\n",
         ),
-        (submit(2, Op::Flush), "- accepted 2\n"),
         (
+            1,
+            submit(&rt, 2, Op::Flush),
+            "at 0 0 1 submit 2 0 flush 5 30000\n- accepted 2\n",
+        ),
+        (
+            2,
             submit(
+                &rt,
                 3,
                 Op::Write {
                     lba: 8,
@@ -105,23 +139,29 @@ fn a_flush_waits_between_queued_writes(rt: HostRuntime) -> Result<(), Fail> {
                     stamp: 9,
                 },
             ),
-            "- accepted 3\n",
+            "at 0 0 2 submit 3 0 write 8 8 9 5 30000\n- accepted 3\n",
         ),
         (
+            3,
             kick(),
-            "- issued 1 1 0 30000 2780610800000040000000000000000000000000\n",
+            "at 0 0 3 kick 0\n- issued 1 1 0 30000 2780610800000040000000000000000000000000\n",
         ),
-        (kick(), "- deferred 2 link-busy\n"),
-        (work(), "- done 1 40 00 0 0\n"),
-        (Step::Irq, "- answered 1 1 ok 40 00 0 0\n"),
+        (4, kick(), "at 0 0 4 kick 0\n- deferred 2 link-busy\n"),
         (
-            kick(),
-            "- issued 2 2 0 30000 2780ea0000000040000000000000000000000000\n",
+            5,
+            work(),
+            "at 0 0 5 work 0 0\n- done 1 40 00 0 0\n- raised\n",
         ),
-        (kick(), "- deferred 3 link-busy\n"),
+        (6, Step::Irq, "at 0 0 6 irq\n- answered 1 1 ok 40 00 0 0\n"),
+        (
+            7,
+            kick(),
+            "at 0 0 7 kick 0\n- issued 2 2 0 30000 2780ea0000000040000000000000000000000000\n",
+        ),
+        (8, kick(), "at 0 0 8 kick 0\n- deferred 3 link-busy\n"),
     ] {
-        let line = told(&rt, &mut port, 0, &step)?;
-        assert_eq!(rt; line.bytes(), want.as_bytes());
+        let entry = entry_of(&rt, alloc, &mut port, seq, &step)?;
+        assert_eq!(rt; entry.as_str(), want);
     }
     Ok(())
 }

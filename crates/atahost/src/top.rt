@@ -1,8 +1,5 @@
-ghost use Rattle.std.specs.Prelude.{◌≡◌, ◌<◌, ◌↔◌, ℕ, IfSome, IsSome, IsTrue};
-ghost use Rattle.std.specs.Io.KnownBytes.{IsAtEnd};
-ghost use Rattle.ata_io.specs.Faults.{Rose};
-ghost use Rattle.atahost.specs.Headline.{CutShort, IsNoScript, IsTooLong, Replayed};
-ghost use Rattle.atahost.specs.Statuses.{is_unprinted, left_live};
+ghost use Rattle.std.specs.Prelude.{◌≡◌, ◌↔◌, IsTrue};
+ghost use Rattle.atahost.specs.Headline.{Replays};
 ghost use Rattle.atahost.specs.Words.{AreWords};
 
 use crate::replay::replay_all;
@@ -23,19 +20,7 @@ pub fn atahost<S: Source, K: Sink>(
 ) -> Status
     ensures usage { result ≡ Status.Usage ↔ (AreWords words.now → ⊥) }
     ensures nothing_read { result ≡ Status.Usage → source.new ≡ source.old }
-    ensures nothing_written { IsTrue (is_unprinted result) → sink.new ≡ sink.old }
-    ensures printed { IfSome (left_live result)
-        (λ k. Replayed (S.left source.old) (K.written sink.old) (K.written sink.new) k) }
-    ensures left { (k : ℕ) → result ≡ Status.Left k → 0 < k }
-    ensures all_read { IsSome (left_live result) → IsAtEnd (S.left source.new) }
-    ensures bad_place { (line : ℕ) → (rule : ℕ) → result ≡ Status.BadScript line rule → (line ≡ 0) × (rule ≡ 0) }
-    ensures bad { result ≡ Status.BadScript 0 0
-        → IfSome (S.left source.old) IsNoScript × IsAtEnd (S.left source.new) }
-    ensures too_long { result ≡ Status.TooLong → IfSome (S.left source.old) IsTooLong }
-    ensures read { result ≡ Status.ReadFault → Rose (S.fault_count source.old) (S.fault_count source.new) }
-    ensures write { result ≡ Status.WriteFault → Rose (K.fault_count sink.old) (K.fault_count sink.new) }
-    ensures prefix { result ≡ Status.WriteFault
-        → CutShort (S.left source.old) (K.written sink.old) (K.written sink.new) }
+    ensures replays { Replays S.left S.fault_count K.written K.fault_count source.old source.new sink.old sink.new result }
 {
     if are_words(words) {
         replay_all(alloc, source, sink, ROUNDS)

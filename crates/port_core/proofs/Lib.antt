@@ -1,2 +1,4 @@
 pub mod Growing
+pub mod Hosts
 pub mod Pieces
+pub mod Weaves

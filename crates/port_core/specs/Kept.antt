@@ -1,7 +1,7 @@
 use Rattle.std.specs.Prelude.{◌≡◌, ◌<◌, ◌≤◌}
 use Rattle.port_core.specs.declared.port.Port.TheInside.{Inside}
-use Rattle.port_rules.specs.Boot.{size_of}
-use Rattle.port_rules.specs.Legal.{IsLegal}
+use Rattle.first_rules.specs.Boot.{size_of}
+use Rattle.first_rules.specs.Legal.{IsLegal}
 
 -- the journal is legal for the head, the ledger's drive is the head's, and a spare is room for a step
 pub record IsKept (p : Inside) : Type 0 where

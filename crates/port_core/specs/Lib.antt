@@ -1,4 +1,5 @@
-pub mod History
+pub mod Hosts
 pub mod Kept
-pub mod Parts
+pub mod PortView
 pub mod Text
+pub mod Weave

@@ -1,10 +1,13 @@
-//! A port: its journal is the one that the rules give for its head and its steps.
+//! A port: its journal is the one that the rules give for its head and its steps. A host: its ports in the
+//! order of their numbers.
 #![tactic(auto)]
 
+mod host;
+mod laws;
 mod port;
-mod runs;
 mod text;
 
+pub use host::Host;
+pub use laws::{actors_in_turn, one_in_line_order, runs_are_legal};
 pub use port::Port;
-pub use runs::runs_are_legal;
-pub use text::put_port;
+pub use text::{put_host, put_port};

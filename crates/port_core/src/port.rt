@@ -1,20 +1,20 @@
-ghost use Rattle.std.specs.Prelude.{◌≡◌, ℕ, ◌<◌, ◌≤◌, ◌++◌, ◌==◌, ◌∷◌, [], length, IfOk, OnOk};
+ghost use Rattle.std.specs.Prelude.{◌≡◌, ℕ, ◌<◌, ◌≤◌, ◌++◌, ◌==◌, ◌∷◌, [], length, IfOk, OnOk, OnErr};
 ghost use Rattle.std.specs.List.{list_any};
 ghost use Rattle.ata_trace.specs.Entries.{past_of};
-ghost use Rattle.port_laws.specs.Links.{AreLinksUnmixed};
-ghost use Rattle.port_laws.specs.Moments.{AtEach};
-ghost use Rattle.port_laws.specs.Once.{IsOnceOrLive};
-ghost use Rattle.port_laws.specs.Silent.{IsSilentWhileFrozen};
-ghost use Rattle.port_laws.specs.Success.{IsDoneWell};
-ghost use Rattle.port_laws.specs.Tags.{IsTagFree};
-ghost use Rattle.port_past.specs.Accepted.{accepted, live};
-ghost use Rattle.port_rules.specs.Boot.{boot_entry, size_of};
-ghost use Rattle.port_rules.specs.Legal.{IsLegal, entry_after};
+ghost use Rattle.first_laws.specs.Links.{AreLinksUnmixed};
+ghost use Rattle.first_laws.specs.Moments.{AtEach};
+ghost use Rattle.first_laws.specs.Once.{AreOnceOrLive};
+ghost use Rattle.first_laws.specs.Silent.{IsSilentWhileFrozen};
+ghost use Rattle.first_laws.specs.Success.{IsDoneWell};
+ghost use Rattle.first_laws.specs.Tags.{IsTagFree};
+ghost use Rattle.first_past.specs.Accepted.{accepted, live};
+ghost use Rattle.first_rules.specs.Boot.{boot_entry, size_of};
+ghost use Rattle.first_rules.specs.Legal.{IsLegal, entry_after};
 
 use ata_base::{CmdId, OutOfMemory, PortNo};
 use ata_script::PortHead;
 use ata_trace::{Journal, Step, Who};
-use port_ledger::Ledger;
+use first_ledger::Ledger;
 use std::alloc::Global;
 use std::marker::Model;
 
@@ -22,49 +22,46 @@ use std::marker::Model;
 /// spare: for how many steps it has room, 0 or 1.
 #[derive(Drop)]
 pub struct Port {
-    no: PortNo,
+    number: PortNo,
     head: PortHead,
     ledger: Ledger,
     spare: usize,
 }
 
 impl Model for Port {
-    ghost use Rattle.port_core.specs.History.{History};
+    ghost use Rattle.port_core.specs.PortView.{PortView};
 
-    ghost Value = { History };
+    ghost Value = { PortView };
 
     ghost use Rattle.port_core.specs.Kept.{IsKept};
 
-    ghost view = { λ p. record { number = p.no; head = p.head; entries = p.ledger.entries; spare = p.spare } };
+    ghost view = { λ p. record { number = p.number; head = p.head; entries = p.ledger.entries; spare = p.spare } };
 
     ghost invariant = { IsKept };
 }
 
 impl Port {
     /// A port that has booted: its journal is the boot entry.
-    pub fn start(alloc: Global, no: PortNo, h: &PortHead) -> Result<Port, OutOfMemory>
-        ensures number { IfOk result (λ p. p.number ≡ no) }
-        ensures head { IfOk result (λ p. p.head ≡ h.now) }
-        ensures entries { IfOk result (λ p. p.entries ≡ boot_entry h.now ∷ []) }
+    pub fn start(alloc: Global, number: PortNo, head: &PortHead) -> Result<Port, OutOfMemory>
+        ensures number { IfOk result (λ p. p.number ≡ number) }
+        ensures head { IfOk result (λ p. p.head ≡ head.now) }
+        ensures entries { IfOk result (λ p. p.entries ≡ boot_entry head.now ∷ []) }
     {
-        let head = h.copy(alloc)?;
+        let head = head.copy(alloc)?;
         let ledger = booted(alloc, &head)?;
         Ok(Port {
-            no,
+            number,
             head,
             ledger,
             spare: 0,
         })
     }
 
-    /// Makes room for one step. The port stays, also where memory is wanted.
+    /// Makes room for one step. The port stays; after a refusal the room stays too.
     pub fn reserve(&mut self) -> Result<(), OutOfMemory>
-        ensures number { self.new.number ≡ self.old.number }
-        ensures head { self.new.head ≡ self.old.head }
-        ensures entries { self.new.entries ≡ self.old.entries }
-        ensures spare { OnOk result (self.new.spare ≡ 1) }
+        ensures ok { OnOk result (self.new ≡ record self.old { spare = 1 }) }
+        ensures err { OnErr result (self.new ≡ self.old) }
     {
-        self.spare = 0;
         self.ledger.reserve()?;
         self.spare = 1;
         Ok(())
@@ -79,7 +76,7 @@ impl Port {
         ensures legal { IsLegal self.new.head self.new.entries }
 
         // The laws of every legal journal.
-        ensures once { (id : ℕ) → IsOnceOrLive id (past_of self.new.entries) }
+        ensures once { AtEach AreOnceOrLive (past_of self.new.entries) }
         ensures success { AtEach IsDoneWell (past_of self.new.entries) }
         ensures tags { AtEach IsTagFree (past_of self.new.entries) }
         ensures links { AtEach AreLinksUnmixed (past_of self.new.entries) }
@@ -95,7 +92,7 @@ impl Port {
     pub fn number(&self) -> PortNo
         ensures { result ≡ self.now.number }
     {
-        self.no
+        self.number
     }
 
     /// The journal.
@@ -106,16 +103,17 @@ impl Port {
     }
 
     /// Whether the command of this number is live.
-    pub fn is_live(&self, c: CmdId) -> bool
-        ensures { result ≡ list_any (λ id. id == c) (live (past_of self.now.entries)) }
+    pub fn is_live(&self, id: CmdId) -> bool
+        ensures { result ≡ list_any (λ c. c == id) (live (past_of self.now.entries)) }
     {
-        self.ledger.is_live(c)
+        self.ledger.is_live(id)
     }
 
     /// How many commands are live.
     pub fn live(&self) -> u32
         ensures value { result ≡ length (live (past_of self.now.entries)) }
         ensures most { result ≤ length (accepted (past_of self.now.entries)) }
+        ensures few { result ≤ 65536 }
     {
         self.ledger.live()
     }
@@ -142,8 +140,8 @@ fn booted(alloc: Global, head: &PortHead) -> Result<Ledger, OutOfMemory>
     ensures legal { IfOk result (λ l. IsLegal head.now l.entries) }
 {
     let drives = head.drives.items();
-    let mut ledger = Ledger::new(alloc, port_steps::size_of(drives))?;
-    port_steps::boot(&mut ledger, drives);
+    let mut ledger = Ledger::new(alloc, first_steps::size_of(drives))?;
+    first_steps::boot(&mut ledger, drives);
     Ok(ledger)
 }
 
@@ -157,5 +155,5 @@ fn take(ledger: &mut Ledger, head: &PortHead, who: Who, seq: u64, step: &Step)
     ensures legal { IsLegal head.now ledger.new.entries }
     ensures size { ledger.new.size ≡ ledger.old.size }
 {
-    port_steps::act(ledger, who, seq, step);
+    first_steps::act(ledger, who, seq, step);
 }

@@ -1,99 +1,109 @@
-ghost use Rattle.std.specs.Prelude.{◌≡◌, ◌≤◌, ◌++◌, length, OnOk, OnErr};
-ghost use Rattle.std.specs.Io.KnownBytes.{Appends};
+ghost use Rattle.std.specs.Prelude.{◌≡◌, ◌≤◌, length};
 ghost use Rattle.std.specs.List.{flat_map};
-ghost use Rattle.ata_io.specs.Faults.{Rose};
-ghost use Rattle.ata_trace.specs.Lent.{record_lent};
+ghost use Rattle.ata_io.specs.Writing.{Writes};
+ghost use Rattle.ata_trace.specs.Lent.{entry_lent};
 ghost use Rattle.ata_trace.specs.Text.{act_line, head_line};
-ghost use Rattle.port_core.specs.Parts.{WritesPart};
-ghost use Rattle.port_core.specs.Text.{port_line, entry_text, live_line, live_text, end_line, counts_text, rest_text, port_text};
-ghost use Rattle.port_past.specs.Accepted.{accepted, live};
+ghost use Rattle.port_core.specs.Text.{port_line, entry_text, live_line, live_text, end_line, counts_text, rest_text, port_text, text_of, texts_of};
+ghost use Rattle.port_core.specs.Hosts.{journals_in};
+ghost use Rattle.first_past.specs.Accepted.{accepted, live};
 ghost use Rattle.ata_trace.specs.Entries.{past_of};
 
+use crate::host::Host;
 use crate::port::Port;
 use ata_base::CmdId;
 use ata_io::{Sink, WriteFault, put_all};
-use ata_trace::{Act, Entry, Journal, Line, act_line, head_line};
+use ata_trace::{Act, Entry, Journal, Line, set_act_line, set_head_line};
 
-/// Appends the text of a port to the sink, one piece a line. `WriteFault` comes only where a write
-/// failed; then a prefix of the text was appended. It takes no memory.
-pub fn put_port<K: Sink>(p: &Port, k: &mut K) -> Result<(), WriteFault>
-    ensures ok { OnOk result (Appends (K.written k.old) (K.written k.new) (port_text p.now.number p.now.entries)) }
-    ensures part { OnErr result (WritesPart (K.written k.old) (K.written k.new) (port_text p.now.number p.now.entries)) }
-    ensures fault { OnErr result (Rose (K.fault_count k.old) (K.fault_count k.new)) }
-    ensures count { K.fault_count k.old ≤ K.fault_count k.new }
+/// Appends the text of a port to the sink, and no write failed; or `WriteFault` at the first write that
+/// failed, and a prefix of the text was appended. It takes no memory. Each line is one piece: a clause
+/// speaks of the bytes alone, so that is tested and not proved.
+pub fn put_port<K: Sink>(port: &Port, sink: &mut K) -> Result<(), WriteFault>
+    ensures { Writes K.written K.fault_count sink.old sink.new result
+        (port_text port.now.number port.now.entries) }
 {
-    match put_first(p, k) {
-        Ok(()) => put_rest(p, k),
+    match put_first(port, sink) {
+        Ok(()) => put_rest(port, sink),
         Err(_) => Err(WriteFault),
     }
 }
 
-/// All but the first line: the entries, the live commands and the counts.
-fn put_rest<K: Sink>(p: &Port, k: &mut K) -> Result<(), WriteFault>
-    ensures ok { OnOk result (Appends (K.written k.old) (K.written k.new) (rest_text p.now.number p.now.entries)) }
-    ensures part { OnErr result (WritesPart (K.written k.old) (K.written k.new) (rest_text p.now.number p.now.entries)) }
-    ensures fault { OnErr result (Rose (K.fault_count k.old) (K.fault_count k.new)) }
-    ensures count { K.fault_count k.old ≤ K.fault_count k.new }
+/// Appends the texts of all ports of a host in the order of their numbers, as `put_port` does each.
+pub fn put_host<K: Sink>(host: &Host, sink: &mut K) -> Result<(), WriteFault>
+    ensures { Writes K.written K.fault_count sink.old sink.new result (texts_of (journals_in host.now)) }
 {
-    match put_entries(p.journal(), k) {
-        Ok(()) => put_counts(p, k),
+    put_ports(host.ports(), sink)
+}
+
+/// The texts of ports, one after the other.
+fn put_ports<K: Sink>(ports: &[Port], sink: &mut K) -> Result<(), WriteFault>
+    ensures { Writes K.written K.fault_count sink.old sink.new result (flat_map text_of ports.now) }
+{
+    for port in ports {
+        match put_port(port, sink) {
+            Ok(()) => {}
+            Err(_) => return Err(WriteFault),
+        }
+    }
+    Ok(())
+}
+
+/// All but the first line: the entries, the live commands and the counts.
+fn put_rest<K: Sink>(port: &Port, sink: &mut K) -> Result<(), WriteFault>
+    ensures { Writes K.written K.fault_count sink.old sink.new result
+        (rest_text port.now.number port.now.entries) }
+{
+    let mut line = Line::new();
+    match put_entries(port.journal(), &mut line, sink) {
+        Ok(()) => put_counts(port, sink),
         Err(_) => Err(WriteFault),
     }
 }
 
 /// The live commands and the counts.
-fn put_counts<K: Sink>(p: &Port, k: &mut K) -> Result<(), WriteFault>
-    ensures ok { OnOk result (Appends (K.written k.old) (K.written k.new) (counts_text p.now.number p.now.entries)) }
-    ensures part { OnErr result (WritesPart (K.written k.old) (K.written k.new) (counts_text p.now.number p.now.entries)) }
-    ensures fault { OnErr result (Rose (K.fault_count k.old) (K.fault_count k.new)) }
-    ensures count { K.fault_count k.old ≤ K.fault_count k.new }
+fn put_counts<K: Sink>(port: &Port, sink: &mut K) -> Result<(), WriteFault>
+    ensures { Writes K.written K.fault_count sink.old sink.new result
+        (counts_text port.now.number port.now.entries) }
 {
-    match put_lives(p, p.accepted(), k) {
-        Ok(()) => put_last(p, k),
+    match put_lives(port, port.accepted(), sink) {
+        Ok(()) => put_last(port, sink),
         Err(_) => Err(WriteFault),
     }
 }
 
 /// The first line.
-fn put_first<K: Sink>(p: &Port, k: &mut K) -> Result<(), WriteFault>
-    ensures ok { OnOk result (Appends (K.written k.old) (K.written k.new) (port_line p.now.number)) }
-    ensures part { OnErr result (WritesPart (K.written k.old) (K.written k.new) (port_line p.now.number)) }
-    ensures fault { OnErr result (Rose (K.fault_count k.old) (K.fault_count k.new)) }
-    ensures count { K.fault_count k.old ≤ K.fault_count k.new }
+fn put_first<K: Sink>(port: &Port, sink: &mut K) -> Result<(), WriteFault>
+    ensures { Writes K.written K.fault_count sink.old sink.new result (port_line port.now.number) }
 {
-    put_line(&port_line(p.number().get()), k)
+    put_line(&port_line(port.number().get()), sink)
 }
 
 /// The last line.
-fn put_last<K: Sink>(p: &Port, k: &mut K) -> Result<(), WriteFault>
-    ensures ok { OnOk result (Appends (K.written k.old) (K.written k.new) (end_line p.now.number (length (accepted (past_of p.now.entries))) (length (live (past_of p.now.entries))))) }
-    ensures part { OnErr result (WritesPart (K.written k.old) (K.written k.new) (end_line p.now.number (length (accepted (past_of p.now.entries))) (length (live (past_of p.now.entries))))) }
-    ensures fault { OnErr result (Rose (K.fault_count k.old) (K.fault_count k.new)) }
-    ensures count { K.fault_count k.old ≤ K.fault_count k.new }
+fn put_last<K: Sink>(port: &Port, sink: &mut K) -> Result<(), WriteFault>
+    ensures { Writes K.written K.fault_count sink.old sink.new result
+        (end_line port.now.number
+        (length (accepted (past_of port.now.entries))) (length (live (past_of port.now.entries)))) }
 {
-    put_line(&end_line(p.number().get(), p.accepted().len(), p.live()), k)
+    put_line(
+        &end_line(port.number().get(), port.accepted().len(), port.live()),
+        sink,
+    )
 }
 
 /// A line.
-fn put_line<K: Sink>(line: &Line, k: &mut K) -> Result<(), WriteFault>
-    ensures ok { OnOk result (Appends (K.written k.old) (K.written k.new) line.now) }
-    ensures part { OnErr result (WritesPart (K.written k.old) (K.written k.new) line.now) }
-    ensures fault { OnErr result (Rose (K.fault_count k.old) (K.fault_count k.new)) }
-    ensures count { K.fault_count k.old ≤ K.fault_count k.new }
+fn put_line<K: Sink>(line: &Line, sink: &mut K) -> Result<(), WriteFault>
+    ensures { Writes K.written K.fault_count sink.old sink.new result line.now }
 {
-    put_all(k, line.bytes())
+    put_all(sink, line.bytes())
 }
 
-/// The entries of a journal.
-fn put_entries<K: Sink>(journal: &Journal, k: &mut K) -> Result<(), WriteFault>
-    ensures ok { OnOk result (Appends (K.written k.old) (K.written k.new) (flat_map entry_text journal.now.entries)) }
-    ensures part { OnErr result (WritesPart (K.written k.old) (K.written k.new) (flat_map entry_text journal.now.entries)) }
-    ensures fault { OnErr result (Rose (K.fault_count k.old) (K.fault_count k.new)) }
-    ensures count { K.fault_count k.old ≤ K.fault_count k.new }
+/// The entries of a journal. Each line is made in `line`.
+fn put_entries<K: Sink>(journal: &Journal, line: &mut Line, sink: &mut K) -> Result<(), WriteFault>
+    ensures { Writes K.written K.fault_count sink.old sink.new result
+        (flat_map entry_text journal.now.entries) }
 {
     for i in 0..journal.len() {
         match journal.entry(i) {
-            Some(entry) => match put_entry(&entry, k) {
+            Some(entry) => match put_entry(&entry, line, sink) {
                 Ok(()) => {}
                 Err(_) => return Err(WriteFault),
             },
@@ -104,47 +114,39 @@ fn put_entries<K: Sink>(journal: &Journal, k: &mut K) -> Result<(), WriteFault>
 }
 
 /// An entry: its head, and a line for each act.
-fn put_entry<K: Sink>(entry: &Entry<'_>, k: &mut K) -> Result<(), WriteFault>
-    ensures ok { OnOk result (Appends (K.written k.old) (K.written k.new) (entry_text (record_lent entry.now))) }
-    ensures part { OnErr result (WritesPart (K.written k.old) (K.written k.new) (entry_text (record_lent entry.now))) }
-    ensures fault { OnErr result (Rose (K.fault_count k.old) (K.fault_count k.new)) }
-    ensures count { K.fault_count k.old ≤ K.fault_count k.new }
+fn put_entry<K: Sink>(entry: &Entry<'_>, line: &mut Line, sink: &mut K) -> Result<(), WriteFault>
+    ensures { Writes K.written K.fault_count sink.old sink.new result
+        (entry_text (entry_lent entry.now)) }
 {
-    match put_head(entry, k) {
-        Ok(()) => put_acts(entry.acts, k),
+    match put_head(entry, line, sink) {
+        Ok(()) => put_acts(entry.acts, line, sink),
         Err(_) => Err(WriteFault),
     }
 }
 
 /// The line of an entry's head.
-fn put_head<K: Sink>(entry: &Entry<'_>, k: &mut K) -> Result<(), WriteFault>
-    ensures ok { OnOk result (Appends (K.written k.old) (K.written k.new) (head_line entry.now.at.n entry.now.who entry.now.seq entry.now.step)) }
-    ensures part { OnErr result (WritesPart (K.written k.old) (K.written k.new) (head_line entry.now.at.n entry.now.who entry.now.seq entry.now.step)) }
-    ensures fault { OnErr result (Rose (K.fault_count k.old) (K.fault_count k.new)) }
-    ensures count { K.fault_count k.old ≤ K.fault_count k.new }
+fn put_head<K: Sink>(entry: &Entry<'_>, line: &mut Line, sink: &mut K) -> Result<(), WriteFault>
+    ensures { Writes K.written K.fault_count sink.old sink.new result
+        (head_line entry.now.at.n entry.now.who entry.now.seq entry.now.step) }
 {
-    put_line(&head_line(entry.at, entry.who, entry.seq, &entry.step), k)
+    set_head_line(line, entry.at, entry.who, entry.seq, &entry.step);
+    put_line(line, sink)
 }
 
 /// The line of an act.
-fn put_act<K: Sink>(act: &Act, k: &mut K) -> Result<(), WriteFault>
-    ensures ok { OnOk result (Appends (K.written k.old) (K.written k.new) (act_line act.now)) }
-    ensures part { OnErr result (WritesPart (K.written k.old) (K.written k.new) (act_line act.now)) }
-    ensures fault { OnErr result (Rose (K.fault_count k.old) (K.fault_count k.new)) }
-    ensures count { K.fault_count k.old ≤ K.fault_count k.new }
+fn put_act<K: Sink>(act: &Act, line: &mut Line, sink: &mut K) -> Result<(), WriteFault>
+    ensures { Writes K.written K.fault_count sink.old sink.new result (act_line act.now) }
 {
-    put_line(&act_line(act), k)
+    set_act_line(line, act);
+    put_line(line, sink)
 }
 
 /// A line for each act.
-fn put_acts<K: Sink>(acts: &[Act], k: &mut K) -> Result<(), WriteFault>
-    ensures ok { OnOk result (Appends (K.written k.old) (K.written k.new) (flat_map act_line acts.now)) }
-    ensures part { OnErr result (WritesPart (K.written k.old) (K.written k.new) (flat_map act_line acts.now)) }
-    ensures fault { OnErr result (Rose (K.fault_count k.old) (K.fault_count k.new)) }
-    ensures count { K.fault_count k.old ≤ K.fault_count k.new }
+fn put_acts<K: Sink>(acts: &[Act], line: &mut Line, sink: &mut K) -> Result<(), WriteFault>
+    ensures { Writes K.written K.fault_count sink.old sink.new result (flat_map act_line acts.now) }
 {
     for act in acts {
-        match put_act(act, k) {
+        match put_act(act, line, sink) {
             Ok(()) => {}
             Err(_) => return Err(WriteFault),
         }
@@ -153,14 +155,12 @@ fn put_acts<K: Sink>(acts: &[Act], k: &mut K) -> Result<(), WriteFault>
 }
 
 /// A line for each of these commands that is live.
-fn put_lives<K: Sink>(p: &Port, ids: &[CmdId], k: &mut K) -> Result<(), WriteFault>
-    ensures ok { OnOk result (Appends (K.written k.old) (K.written k.new) (flat_map (live_text (live (past_of p.now.entries))) ids.now)) }
-    ensures part { OnErr result (WritesPart (K.written k.old) (K.written k.new) (flat_map (live_text (live (past_of p.now.entries))) ids.now)) }
-    ensures fault { OnErr result (Rose (K.fault_count k.old) (K.fault_count k.new)) }
-    ensures count { K.fault_count k.old ≤ K.fault_count k.new }
+fn put_lives<K: Sink>(port: &Port, ids: &[CmdId], sink: &mut K) -> Result<(), WriteFault>
+    ensures { Writes K.written K.fault_count sink.old sink.new result
+        (flat_map (live_text (live (past_of port.now.entries))) ids.now) }
 {
     for id in ids {
-        match put_live(p, *id, k) {
+        match put_live(port, *id, sink) {
             Ok(()) => {}
             Err(_) => return Err(WriteFault),
         }
@@ -169,14 +169,12 @@ fn put_lives<K: Sink>(p: &Port, ids: &[CmdId], k: &mut K) -> Result<(), WriteFau
 }
 
 /// A line for a command, where it is live.
-fn put_live<K: Sink>(p: &Port, id: CmdId, k: &mut K) -> Result<(), WriteFault>
-    ensures ok { OnOk result (Appends (K.written k.old) (K.written k.new) (live_text (live (past_of p.now.entries)) id)) }
-    ensures part { OnErr result (WritesPart (K.written k.old) (K.written k.new) (live_text (live (past_of p.now.entries)) id)) }
-    ensures fault { OnErr result (Rose (K.fault_count k.old) (K.fault_count k.new)) }
-    ensures count { K.fault_count k.old ≤ K.fault_count k.new }
+fn put_live<K: Sink>(port: &Port, id: CmdId, sink: &mut K) -> Result<(), WriteFault>
+    ensures { Writes K.written K.fault_count sink.old sink.new result
+        (live_text (live (past_of port.now.entries)) id) }
 {
-    if p.is_live(id) {
-        put_line(&live_line(id), k)
+    if port.is_live(id) {
+        put_line(&live_line(id), sink)
     } else {
         Ok(())
     }

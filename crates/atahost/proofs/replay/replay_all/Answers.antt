@@ -1,16 +1,15 @@
-use Rattle.atahost.proofs.HeadlineLemmas.{if_some, replayed, cut_short}
+use Rattle.port_core.specs.Hosts.{journals_in}
+use Rattle.atahost.proofs.HeadlineLemmas.{printed, refused}
 use Rattle.atahost.proofs.replay.replay_all.Goals as goal
 
-pub returns-in-Ok-play-clause-printed : goal.returns-in-Ok-play-clause-printed
-returns-in-Ok-play-clause-printed g c =
-    if_some _ _ _
-    (λ k told. replayed (g.S.Source.left c.args.source.now) (g.K.Sink.written c.args.sink.now) (g.K.Sink.written c.print.new.sink)
-    c.in-Ok.script.identity c.in-Ok.script.steps.items c.in-Ok-play.port.head c.in-Ok-play.port.number c.in-Ok-play.port.entries k
-    c.in-Ok.ensures.script c.in-Ok-play.ensures.head c.in-Ok-play.ensures.entries c.in-Ok-play.ensures.number told)
-    c.print.ensures.printed
+pub returns-in-Ok-replay-clause-replays : goal.returns-in-Ok-replay-clause-replays
+returns-in-Ok-replay-clause-replays g c =
+    printed g.S.Source.left g.S.Source.fault_count g.K.Sink.written g.K.Sink.fault_count _ _ _ _ _
+    c.in-Ok.script (journals_in c.in-Ok-replay.host)
+    (record { read = c.in-Ok.ensures.script; made = c.in-Ok-replay.ensures.journals })
+    c.in-Ok.ensures.all_read c.in-Ok.ensures.faultless c.print.ensures.printed c.print.ensures.faults
 
-pub returns-in-Ok-play-clause-prefix : goal.returns-in-Ok-play-clause-prefix
-returns-in-Ok-play-clause-prefix g c = λ fault.
-    cut_short (g.S.Source.left c.args.source.now) (g.K.Sink.written c.args.sink.now) (g.K.Sink.written c.print.new.sink)
-    c.in-Ok.script.identity c.in-Ok.script.steps.items c.in-Ok-play.port.head c.in-Ok-play.port.number c.in-Ok-play.port.entries
-    c.in-Ok.ensures.script c.in-Ok-play.ensures.head c.in-Ok-play.ensures.entries c.in-Ok-play.ensures.number (c.print.ensures.prefix fault)
+pub returns-in-Err-clause-replays : goal.returns-in-Err-clause-replays
+returns-in-Err-clause-replays g c =
+    refused g.S.Source.left g.S.Source.fault_count g.K.Sink.written g.K.Sink.fault_count _ _ _ _
+    c.in-Err.ensures.refused c.in-Err.ensures.faults

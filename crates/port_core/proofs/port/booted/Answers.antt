@@ -1,7 +1,7 @@
 use Rattle.std.proofs.Common.{◌≡◌, ◌∷◌, []}
 use Rattle.ata_trace.specs.Entries.{past_of}
 use Rattle.ata_trace.specs.Event.{onto}
-use Rattle.port_rules.specs.Boot.{boot_acts, boot_entry}
+use Rattle.first_rules.specs.Boot.{boot_acts, boot_entry}
 use Rattle.port_core.proofs.Growing.{booted_entries, IsLegal_boot}
 use Rattle.port_core.proofs.port.booted.Goals as goal
 

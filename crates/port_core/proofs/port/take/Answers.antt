@@ -1,7 +1,7 @@
 use Rattle.std.proofs.Common.{◌≡◌, ◌∷◌, [], ◌++◌}
 use Rattle.ata_trace.specs.Entries.{past_of}
-use Rattle.port_rules.specs.Boot.{size_of}
-use Rattle.port_rules.specs.Legal.{entry_after}
+use Rattle.first_rules.specs.Boot.{size_of}
+use Rattle.first_rules.specs.Legal.{entry_after}
 use Rattle.port_core.proofs.Growing.{entries_grown, IsLegal_more}
 use Rattle.port_core.proofs.port.take.Goals as goal
 

@@ -1,15 +1,19 @@
-use Rattle.std.proofs.Common.{ℕ, List, ◌++◌, length, subst, OnErr}
+use Rattle.std.proofs.Common.{ℕ, List, ◌++◌, length, subst}
 use Rattle.std.specs.List.{flat_map}
+use Rattle.ata_io.specs.Writing.{Writes}
 use Rattle.ata_trace.specs.Entries.{past_of}
-use Rattle.port_past.specs.Accepted.{accepted, live}
-use Rattle.port_core.specs.Parts.{WritesPart}
+use Rattle.first_past.specs.Accepted.{accepted, live}
 use Rattle.port_core.specs.Text.{live_text, end_line}
-use Rattle.port_core.proofs.Pieces.{part_after, on_err}
+use Rattle.port_core.proofs.Pieces.{wrote, writes_then, writes_cut_of}
 use Rattle.port_core.proofs.text.put_counts.Goals as goal
 
-pub returns-in-Ok-clause-part : goal.returns-in-Ok-clause-part
-returns-in-Ok-clause-part g c =
-    subst (λ (ids : List ℕ). OnErr c.put_last.result (WritesPart (g.K.Sink.written c.args.k.now) (g.K.Sink.written c.put_last.new.k)
-    (flat_map (live_text (live (past_of c.args.p.now.entries))) ids ++ end_line c.args.p.now.number (length (accepted (past_of c.args.p.now.entries))) (length (live (past_of c.args.p.now.entries))))))
+pub returns-in-Ok : goal.returns-in-Ok
+returns-in-Ok g c =
+    let past = past_of c.args.port.now.entries in
+    subst (λ (ids : List ℕ). Writes g.K.Sink.written g.K.Sink.fault_count c.args.sink.now c.put_last.new.sink c.put_last.result (flat_map (live_text (live past)) ids ++ end_line c.args.port.now.number (length (accepted past)) (length (live past))))
     c.accepted.ensures
-    (on_err _ _ _ (part_after _ _ _ _ _ c.in-Ok.ensures.ok) c.put_last.ensures.part)
+    (writes_then _ _ _ _ _ _ _ _ (wrote _ _ _ _ _ _ c.in-Ok.ensures) c.put_last.ensures)
+
+pub returns-in-Err : goal.returns-in-Err
+returns-in-Err g c =
+    writes_cut_of (flat_map (live_text (live (past_of c.args.port.now.entries)))) _ _ _ _ _ _ _ _ _ c.accepted.ensures c.in-Err.ensures

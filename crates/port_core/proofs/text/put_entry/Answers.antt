@@ -1,5 +1,8 @@
-use Rattle.port_core.proofs.Pieces.{part_after, on_err}
+use Rattle.port_core.proofs.Pieces.{wrote, writes_then, writes_cut}
 use Rattle.port_core.proofs.text.put_entry.Goals as goal
 
-pub returns-in-Ok-clause-part : goal.returns-in-Ok-clause-part
-returns-in-Ok-clause-part g c = on_err _ _ _ (part_after _ _ _ _ _ c.in-Ok.ensures.ok) c.put_acts.ensures.part
+pub returns-in-Ok : goal.returns-in-Ok
+returns-in-Ok g c = writes_then _ _ _ _ _ _ _ _ (wrote _ _ _ _ _ _ c.in-Ok.ensures) c.put_acts.ensures
+
+pub returns-in-Err : goal.returns-in-Err
+returns-in-Err g c = writes_cut _ _ _ _ _ _ _ _ c.in-Err.ensures

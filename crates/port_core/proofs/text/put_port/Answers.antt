@@ -1,10 +1,8 @@
-use Rattle.port_core.specs.Text.{port_line, rest_text}
-use Rattle.port_core.proofs.Pieces.{part_after, part_more, on_err}
+use Rattle.port_core.proofs.Pieces.{wrote, writes_then, writes_cut}
 use Rattle.port_core.proofs.text.put_port.Goals as goal
 
-pub returns-in-Ok-clause-part : goal.returns-in-Ok-clause-part
-returns-in-Ok-clause-part g c = on_err _ _ _ (part_after _ _ _ _ _ c.in-Ok.ensures.ok) c.put_rest.ensures.part
+pub returns-in-Ok : goal.returns-in-Ok
+returns-in-Ok g c = writes_then _ _ _ _ _ _ _ _ (wrote _ _ _ _ _ _ c.in-Ok.ensures) c.put_rest.ensures
 
-pub returns-in-Err-clause-part : goal.returns-in-Err-clause-part
-returns-in-Err-clause-part g c =
-    part_more _ _ (port_line c.args.p.now.number) (rest_text c.args.p.now.number c.args.p.now.entries) c.in-Err.ensures.part
+pub returns-in-Err : goal.returns-in-Err
+returns-in-Err g c = writes_cut _ _ _ _ _ _ _ _ c.in-Err.ensures

@@ -1,13 +1,16 @@
-use Rattle.std.proofs.Common.{List, ◌++◌, subst, OnErr}
+use Rattle.std.proofs.Common.{List, ◌++◌, subst}
 use Rattle.std.specs.List.{flat_map}
-use Rattle.ata_trace.specs.Entries.{Record}
-use Rattle.port_core.specs.Parts.{WritesPart}
+use Rattle.ata_io.specs.Writing.{Writes}
+use Rattle.ata_trace.specs.Entries.{EntryView}
 use Rattle.port_core.specs.Text.{entry_text, counts_text}
-use Rattle.port_core.proofs.Pieces.{part_after, on_err}
+use Rattle.port_core.proofs.Pieces.{wrote, writes_then, writes_cut_of}
 use Rattle.port_core.proofs.text.put_rest.Goals as goal
 
-pub returns-in-Ok-clause-part : goal.returns-in-Ok-clause-part
-returns-in-Ok-clause-part g c =
-    subst (λ (entries : List Record). OnErr c.put_counts.result (WritesPart (g.K.Sink.written c.args.k.now) (g.K.Sink.written c.put_counts.new.k) (flat_map entry_text entries ++ counts_text c.args.p.now.number c.args.p.now.entries)))
+pub returns-in-Ok : goal.returns-in-Ok
+returns-in-Ok g c =
+    subst (λ (entries : List EntryView). Writes g.K.Sink.written g.K.Sink.fault_count c.args.sink.now c.put_counts.new.sink c.put_counts.result (flat_map entry_text entries ++ counts_text c.args.port.now.number c.args.port.now.entries))
     c.journal.ensures
-    (on_err _ _ _ (part_after _ _ _ _ _ c.in-Ok.ensures.ok) c.put_counts.ensures.part)
+    (writes_then _ _ _ _ _ _ _ _ (wrote _ _ _ _ _ _ c.in-Ok.ensures) c.put_counts.ensures)
+
+pub returns-in-Err : goal.returns-in-Err
+returns-in-Err g c = writes_cut_of (flat_map entry_text) _ _ _ _ _ _ _ _ _ c.journal.ensures c.in-Err.ensures

@@ -1,8 +1,8 @@
-use Rattle.port_laws.proofs.Links.{links_are_unmixed}
-use Rattle.port_laws.proofs.Once.{once_or_live}
-use Rattle.port_laws.proofs.Silent.{silent_while_frozen}
-use Rattle.port_laws.proofs.Success.{successes_are_done_well}
-use Rattle.port_laws.proofs.Tags.{tags_are_free}
+use Rattle.first_laws.proofs.Links.{links_are_unmixed}
+use Rattle.first_laws.proofs.Once.{once_or_live}
+use Rattle.first_laws.proofs.Silent.{silent_while_frozen}
+use Rattle.first_laws.proofs.Success.{successes_are_done_well}
+use Rattle.first_laws.proofs.Tags.{tags_are_free}
 use Rattle.port_core.proofs.port.Port.step.Goals as goal
 
 pub returns-clause-once : goal.returns-clause-once

@@ -1,6 +1,0 @@
-mod NameLemmas
-mod NumberLemmas
-mod OneScript
-mod PartLemmas
-mod ScriptLemmas
-mod StepLemmas

@@ -1,0 +1,119 @@
+-- What one step more makes of the steps at a port and of their run, and the laws of weaves.
+use Rattle.std.proofs.Common.{◌≡◌, ◌↔◌, ℕ, ◌+◌, ◌<◌, ◌≤◌, ◌==◌, Bool, true, false, List, [], ◌∷◌, ◌++◌, length, refl, sym, ap, subst, ◌∙◌, append_assoc, arith}
+use Rattle.std.specs.Prelude.{if◌then◌else◌}
+use Rattle.std.proofs.lemmas.Bool.Decides.{nat_tests}
+use Rattle.std.proofs.lemmas.List.{append-nil}
+use Rattle.ata_script.specs.declared.port_head.PortHead.{PortHead}
+use Rattle.ata_trace.specs.Entries.{EntryView, grown, past_from, past_of}
+use Rattle.ata_trace.specs.Event.{Event}
+use Rattle.ata_trace.specs.declared.step.Step.{Step}
+use Rattle.ata_trace.specs.declared.who.Who.TheVariants.{Actor}
+use Rattle.first_rules.specs.Boot.{boot_entry, size_of}
+use Rattle.first_rules.specs.Legal.{entry_after, AreLegal, IsLegal}
+use Rattle.first_rules.specs.Run.{Asked, numbered, run, run_from}
+use Rattle.port_core.proofs.Growing.{runs_are_legal}
+use Rattle.port_core.specs.Weave.{IsInLineOrder, asked_after_boot, asked_at, asked_by, asked_in, count_of, in_turn, steps_at, steps_of}
+
+-- a step behind others, numbered
+abbrev pub asked_next : List (ℕ × Step) → ℕ × Step → Asked
+asked_next before taken = record { who = Actor taken.0; seq = count_of taken.0 before; step = taken.1 }
+
+pub steps_at_push : (port : ℕ) (steps : List (ℕ × ℕ × Step)) (taken : ℕ × ℕ × Step)
+    → steps_at port (steps ++ taken ∷ []) ≡ steps_at port steps ++ steps_at port (taken ∷ [])
+steps_at_push port [] taken = refl
+steps_at_push port (first ∷ rest) taken = chosen (first.1 == port) (steps_at_push port rest taken) where
+  chosen : (b : Bool) → steps_at port (rest ++ taken ∷ []) ≡ steps_at port rest ++ steps_at port (taken ∷ [])
+      → (if b then (first.0, first.2) ∷ steps_at port (rest ++ taken ∷ []) else steps_at port (rest ++ taken ∷ []))
+      ≡ (if b then (first.0, first.2) ∷ steps_at port rest else steps_at port rest) ++ steps_at port (taken ∷ [])
+  chosen true later = ap (λ steps. (first.0, first.2) ∷ steps) later
+  chosen false later = later
+
+pub in_turn_push : (before steps : List (ℕ × Step)) (next : ℕ × Step)
+    → in_turn before (steps ++ next ∷ []) ≡ in_turn before steps ++ asked_next (before ++ steps) next ∷ []
+in_turn_push before [] next = ap (λ list. asked_next list next ∷ []) (sym (append-nil before))
+in_turn_push before (first ∷ rest) next =
+    ap (λ asked. asked_next before first ∷ asked)
+    (in_turn_push (before ++ first ∷ []) rest next
+    ∙ ap (λ list. in_turn (before ++ first ∷ []) rest ++ asked_next list next ∷ []) (append_assoc before (first ∷ []) rest))
+
+-- one step more makes one entry more
+run_from_push : (size : ℕ) (past : List Event) (asked : List Asked) (next : Asked)
+    → run_from size past (asked ++ next ∷ [])
+    ≡ run_from size past asked ++ entry_after size (past_from past (run_from size past asked)) next.who next.seq next.step ∷ []
+run_from_push size past [] next = refl
+run_from_push size past (first ∷ rest) next =
+    let entry = entry_after size past first.who first.seq first.step in
+    ap (λ entries. entry ∷ entries) (run_from_push size (grown past entry) rest next)
+
+pub run_push : (head : PortHead) (asked : List Asked) (next : Asked)
+    → run head (asked ++ next ∷ []) ≡ run head asked ++ entry_after (size_of head) (past_of (run head asked)) next.who next.seq next.step ∷ []
+run_push head asked next = ap (λ entries. boot_entry head ∷ entries) (run_from_push (size_of head) (grown [] (boot_entry head)) asked next)
+
+-- legal entries are the run of what they were asked for
+legal_run : (size : ℕ) (past : List Event) (entries : List EntryView) → AreLegal size past entries → entries ≡ run_from size past (asked_in entries)
+legal_run size past [] legal = refl
+legal_run size past (entry ∷ rest) legal =
+    let next = entry_after size past entry.who entry.seq entry.step in
+    ap (λ e. e ∷ rest) legal.0
+    ∙ ap (λ entries. next ∷ entries) (legal_run size (grown past entry) rest legal.1)
+    ∙ ap (λ e. next ∷ run_from size (grown past e) (asked_in rest)) legal.0
+
+pub journal_run : (head : PortHead) (entries : List EntryView) → IsLegal head entries → entries ≡ run head (asked_after_boot entries)
+journal_run head [] legal = absurd legal
+journal_run head (first ∷ rest) legal =
+    ap (λ e. e ∷ rest) legal.0
+    ∙ ap (λ entries. boot_entry head ∷ entries) (legal_run (size_of head) (grown [] first) rest legal.1)
+    ∙ ap (λ e. boot_entry head ∷ run_from (size_of head) (grown [] e) (asked_in rest)) legal.0
+
+asked_in_run : (size : ℕ) (past : List Event) (asked : List Asked) → asked_in (run_from size past asked) ≡ asked
+asked_in_run size past [] = refl
+asked_in_run size past (first ∷ rest) = ap (λ asked. first ∷ asked) (asked_in_run size (grown past (entry_after size past first.who first.seq first.step)) rest)
+
+pub in_line_order : (head : PortHead) (number : ℕ) (steps : List (ℕ × ℕ × Step)) (entries : List EntryView)
+    → IsInLineOrder head number steps entries ↔ (entries ≡ run head (asked_at number steps))
+in_line_order head number steps entries = (there, back) where
+  there : IsInLineOrder head number steps entries → entries ≡ run head (asked_at number steps)
+  there p = journal_run head entries p.legal ∙ ap (run head) p.asked
+
+  back : entries ≡ run head (asked_at number steps) → IsInLineOrder head number steps entries
+  back e = subst (IsInLineOrder head number steps) (sym e) (record {
+    legal = runs_are_legal head (asked_at number steps);
+    asked = asked_in_run (size_of head) (grown [] (boot_entry head)) (asked_at number steps);
+  })
+
+pub count_push : (actor : ℕ) (steps : List (ℕ × Step)) (taken : ℕ × Step)
+    → count_of actor (steps ++ taken ∷ []) ≡ (if taken.0 == actor then count_of actor steps + 1 else count_of actor steps)
+count_push actor [] taken = refl
+count_push actor (first ∷ rest) taken = chosen (first.0 == actor) (taken.0 == actor) (count_push actor rest taken) where
+  chosen : (here next : Bool) → count_of actor (rest ++ taken ∷ []) ≡ (if next then count_of actor rest + 1 else count_of actor rest)
+      → (if here then count_of actor (rest ++ taken ∷ []) + 1 else count_of actor (rest ++ taken ∷ []))
+      ≡ (if next then (if here then count_of actor rest + 1 else count_of actor rest) + 1 else (if here then count_of actor rest + 1 else count_of actor rest))
+  chosen true true e = ap (λ n. n + 1) e
+  chosen true false e = ap (λ n. n + 1) e
+  chosen false true e = e
+  chosen false false e = e
+
+same_number : (x y : ℕ) → (x == y) ≡ true → x ≡ y
+same_number x y e = grind (arith, nat_tests)
+
+in_turn_from : (actor : ℕ) (before steps : List (ℕ × Step))
+    → asked_by actor (in_turn before steps) ≡ numbered (Actor actor) (count_of actor before) (steps_of actor steps)
+in_turn_from actor before [] = refl
+in_turn_from actor before (taken ∷ rest) =
+    chosen (taken.0 == actor) refl (count_push actor before taken) (in_turn_from actor (before ++ taken ∷ []) rest) where
+      later : List Asked
+      later = asked_by actor (in_turn (before ++ taken ∷ []) rest)
+
+      chosen : (b : Bool) → (taken.0 == actor) ≡ b → count_of actor (before ++ taken ∷ []) ≡ (if b then count_of actor before + 1 else count_of actor before)
+          → later ≡ numbered (Actor actor) (count_of actor (before ++ taken ∷ [])) (steps_of actor rest)
+          → (if b then asked_next before taken ∷ later else later)
+          ≡ numbered (Actor actor) (count_of actor before) (if b then taken.1 ∷ steps_of actor rest else steps_of actor rest)
+      chosen true e c rest_is =
+          ap (λ a. record { who = Actor a; seq = count_of a before; step = taken.1 } ∷ later) (same_number taken.0 actor e)
+          ∙ ap (λ asked. record { who = Actor actor; seq = count_of actor before; step = taken.1 } ∷ asked)
+          (rest_is ∙ ap (λ n. numbered (Actor actor) n (steps_of actor rest)) c)
+      chosen false e c rest_is = rest_is ∙ ap (λ n. numbered (Actor actor) n (steps_of actor rest)) c
+
+pub in_turn_by : (port actor : ℕ) (steps : List (ℕ × ℕ × Step))
+    → asked_by actor (asked_at port steps) ≡ numbered (Actor actor) 0 (steps_of actor (steps_at port steps))
+in_turn_by port actor steps = in_turn_from actor [] (steps_at port steps)

@@ -1,0 +1,67 @@
+-- The steps of a script at its ports, and the journals that they make.
+use Rattle.std.specs.Prelude.{◌≡◌, ℕ, ◌+◌, ◌==◌, Bool, false, List, [], ◌∷◌, ◌++◌, if◌then◌else◌}
+use Rattle.ata_script.specs.declared.port_head.PortHead.{PortHead}
+use Rattle.ata_trace.specs.Entries.{EntryView}
+use Rattle.ata_trace.specs.declared.step.Step.{Step}
+use Rattle.ata_trace.specs.declared.who.Who.{Who}
+use Rattle.ata_trace.specs.declared.who.Who.TheVariants.{Actor}
+use Rattle.first_rules.specs.Legal.{IsLegal}
+use Rattle.first_rules.specs.Run.{Asked, run}
+
+-- the steps at a port, each with its actor, in the order of their lines
+abbrev pub steps_at : ℕ → List (ℕ × ℕ × Step) → List (ℕ × Step)
+steps_at port [] = []
+steps_at port (taken ∷ rest) = if taken.1 == port then (taken.0, taken.2) ∷ steps_at port rest else steps_at port rest
+
+-- how many of these steps are an actor's
+abbrev pub count_of : ℕ → List (ℕ × Step) → ℕ
+count_of actor [] = 0
+count_of actor (taken ∷ rest) = if taken.0 == actor then count_of actor rest + 1 else count_of actor rest
+
+-- steps that follow others, each numbered by how many its actor has before it
+abbrev pub in_turn : List (ℕ × Step) → List (ℕ × Step) → List Asked
+in_turn before [] = []
+in_turn before (taken ∷ rest) =
+    record { who = Actor taken.0; seq = count_of taken.0 before; step = taken.1 } ∷ in_turn (before ++ taken ∷ []) rest
+
+-- what a script's steps ask of a port: those at it, in the order of their lines, each actor's numbered from 0
+abbrev pub asked_at : ℕ → List (ℕ × ℕ × Step) → List Asked
+asked_at port steps = in_turn [] (steps_at port steps)
+
+-- the journals that steps make at the ports with these heads, of which the first has this number
+abbrev pub journals_from : ℕ → List PortHead → List (ℕ × ℕ × Step) → List (List EntryView)
+journals_from number [] steps = []
+journals_from number (head ∷ rest) steps = run head (asked_at number steps) ∷ journals_from (number + 1) rest steps
+
+-- the journals that steps make at the ports with these heads
+abbrev pub journals_of : List PortHead → List (ℕ × ℕ × Step) → List (List EntryView)
+journals_of heads steps = journals_from 0 heads steps
+
+-- the steps of an actor
+abbrev pub steps_of : ℕ → List (ℕ × Step) → List Step
+steps_of actor [] = []
+steps_of actor (taken ∷ rest) = if taken.0 == actor then taken.1 ∷ steps_of actor rest else steps_of actor rest
+
+-- whether that is this actor
+abbrev pub is_actor : ℕ → Who → Bool
+is_actor actor (Actor other) = other == actor
+is_actor actor _ = false
+
+-- of what is asked, an actor's
+abbrev pub asked_by : ℕ → List Asked → List Asked
+asked_by actor [] = []
+asked_by actor (asked ∷ rest) = if is_actor actor asked.who then asked ∷ asked_by actor rest else asked_by actor rest
+
+-- what the entries behind the first were asked for
+abbrev pub asked_in : List EntryView → List Asked
+asked_in [] = []
+asked_in (entry ∷ rest) = record { who = entry.who; seq = entry.seq; step = entry.step } ∷ asked_in rest
+
+abbrev pub asked_after_boot : List EntryView → List Asked
+asked_after_boot [] = []
+asked_after_boot (boot ∷ rest) = asked_in rest
+
+-- a journal of a port with this head and number, at which a script takes these steps, in line order
+pub record IsInLineOrder (head : PortHead) (number : ℕ) (steps : List (ℕ × ℕ × Step)) (entries : List EntryView) : Type 0 where
+  pub legal : IsLegal head entries
+  pub asked : asked_after_boot entries ≡ asked_at number steps
