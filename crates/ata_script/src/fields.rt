@@ -58,6 +58,7 @@ impl<'a> Fields<'a> {
     }
 
     /// Takes the next word if it is this small one, and says whether it was.
+    #[inline(always)]
     #[tactic(auto, using(crate::proofs::SmallWords::took))]
     pub(crate) fn take(&mut self, small: &[u8]) -> bool
         requires { is_word small.now ≡ true }
@@ -86,6 +87,7 @@ impl<'a> Fields<'a> {
     }
 
     /// Takes a number of this range; the least of them where the word is none.
+    #[inline(always)]
     pub(crate) fn number(&mut self, least: u64, most: u64) -> u64
         requires { least ≤ most }
         ensures value { result ≡ number_in least most (first self.old.rest) }

@@ -92,10 +92,9 @@ fn later_line(alloc: Global, draft: &mut Draft, text: &[u8], ended: bool) -> Res
     if is_skipped(text) {
         return Ok(());
     }
-    let first = Words::new(text).peek();
-    if same(first, b"port") {
+    if Words::new(text).take(b"port") {
         port_line(alloc, draft, text)
-    } else if same(first, b"drive") {
+    } else if Words::new(text).take(b"drive") {
         drive_line(draft, text)
     } else {
         step_line(draft, text)

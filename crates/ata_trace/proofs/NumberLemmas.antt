@@ -57,3 +57,15 @@ pub first_cut : (cut n at : ℕ) (text : List ℕ) → cut < 48 → n < 2 ^ 64 �
 first_cut cut n at text low fits within here is =
     let split : text ≡ decimal n ++ cut ∷ drop (at + 1) text = sym is ∙ ap (λ rest. decimal n ++ rest) (drop_more text at 0 within ∙ ap (λ c. c ∷ drop (at + 1) text) here) in
     rw (take_rest text (at + 1)) (ap (parts_of cut) split ∙ number_first cut n (drop (at + 1) text) low fits)
+
+-- the first part of a text that begins with a digit is that digit, where the text ends behind it
+pub digit_ends : (cut : ℕ) (text : List ℕ) → cut < 48 → 48 ≤ slice_index text 0 → slice_index text 0 ≤ 57 → length text ≡ 1
+    → parts_of cut text ≡ decimal (slice_index text 0 - 48) ∷ []
+digit_ends cut [] low least most end = absurd (omega (arith, end))
+digit_ends cut (d ∷ rest) low least most end = first_alone cut (d - 48) 1 (d ∷ rest) low (omega (arith, most)) (sym end) (rw (one_alone d least most) refl)
+
+-- or a cut stands there
+pub digit_cut : (cut : ℕ) (text : List ℕ) → cut < 48 → 48 ≤ slice_index text 0 → slice_index text 0 ≤ 57 → 1 < length text → slice_index text 1 ≡ cut
+    → parts_of cut text ≡ decimal (slice_index text 0 - 48) ∷ parts_of cut (take (length text - 2) (drop 2 text))
+digit_cut cut [] low least most more here = absurd (omega (arith, more))
+digit_cut cut (d ∷ rest) low least most more here = first_cut cut (d - 48) 1 (d ∷ rest) low (omega (arith, most)) more here (rw (one_alone d least most) refl)

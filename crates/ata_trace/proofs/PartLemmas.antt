@@ -1,11 +1,11 @@
-use Rattle.std.proofs.Common.{arith, refl, sym, ap, subst, ◌∙◌, ◌≡◌, ℕ, Bool, true, false, List, [], ◌∷◌, ◌++◌, ◌+◌, ◌-◌, ◌<◌, ◌≤◌, ◌==◌, length, take, drop, get_or, Some, None, length-take}
-use Rattle.std.specs.Prelude.{All, if◌then◌else◌}
+use Rattle.std.proofs.Common.{arith, tests, refl, sym, ap, subst, ◌∙◌, ◌≡◌, ℕ, Bool, true, false, List, [], ◌∷◌, ◌++◌, ◌+◌, ◌-◌, ◌<◌, ◌≤◌, ◌==◌, length, take, drop, get_or, Some, None, length-take}
+use Rattle.std.specs.Prelude.{All, if◌then◌else◌, slice_index}
 use Rattle.std.specs.List.{onto_first}
 use Rattle.std.specs.Str.{bytes_eq}
-use Rattle.std.proofs.lemmas.List.{take_rest, drop_more, get_or_default, get_or-take, take_all, take-append-drop}
+use Rattle.std.proofs.lemmas.List.{take_rest, drop_more, get_or_default, get_or-take, take_all, take-append-drop, drop_all}
 use Rattle.std.proofs.lemmas.List.Splits.{slice_split_at, slice_split_none}
 use Rattle.memchr.specs.Find.{Nowhere, Passes, IsFirstByte, is_byte}
-use Rattle.ata_trace.specs.Parts.{parts_of, first, none_left}
+use Rattle.ata_trace.specs.Parts.{parts_of, first, later, none_left}
 
 not_true : (b : Bool) → (b ≡ true → ⊥) → b ≡ false
 not_true true differs = absurd (differs refl)
@@ -42,15 +42,85 @@ some_part cut (c ∷ text) = chosen (c == cut) (parts_of cut text) where
   chosen true parts = refl
   chosen false parts = onto parts
 
--- a text that begins with another byte than a word doesn't have it as its first part
-pub other_byte : (cut : ℕ) (text name : List ℕ) → 0 < length text → 0 < length name → (get_or text 0 0 == get_or name 0 0) ≡ false → bytes_eq (first (parts_of cut text)) name ≡ false
-other_byte cut [] name some more differs = absurd (omega (arith, some))
-other_byte cut (c ∷ text) [] some more differs = absurd (omega (arith, more))
-other_byte cut (c ∷ text) (d ∷ name) some more differs = chosen (c == cut) (parts_of cut text) where
-  onto : (parts : List (List ℕ)) → bytes_eq (first (onto_first c parts)) (d ∷ name) ≡ false
-  onto [] = rw differs refl
-  onto (part ∷ parts) = rw differs refl
+-- a byte that both begin with, and that is no cut, changes nothing of it
+pub both_begin : (cut c d : ℕ) (text name : List ℕ) → (c == cut) ≡ false → (c == d) ≡ true
+    → bytes_eq (first (parts_of cut (c ∷ text))) (d ∷ name) ≡ bytes_eq (first (parts_of cut text)) name
+both_begin cut c d text name other same = rw other (onto (parts_of cut text)) where
+  onto : (parts : List (List ℕ)) → bytes_eq (first (onto_first c parts)) (d ∷ name) ≡ bytes_eq (first parts) name
+  onto [] = rw same refl
+  onto (part ∷ parts) = rw same refl
 
-  chosen : (b : Bool) (parts : List (List ℕ)) → bytes_eq (first (if b then [] ∷ parts else onto_first c parts)) (d ∷ name) ≡ false
-  chosen true parts = refl
-  chosen false parts = onto parts
+-- nor of the parts behind the first
+pub later_same : (cut c : ℕ) (text : List ℕ) → (c == cut) ≡ false → later (parts_of cut (c ∷ text)) ≡ later (parts_of cut text)
+later_same cut c text other = rw other (onto (parts_of cut text)) where
+  onto : (parts : List (List ℕ)) → later (onto_first c parts) ≡ later parts
+  onto [] = refl
+  onto (part ∷ parts) = refl
+
+-- as far as both are the same, without a cut
+pub same_more : (cut at : ℕ) (text name : List ℕ) → at < length text → at < length name
+    → (slice_index text at == cut) ≡ false → (slice_index text at == slice_index name at) ≡ true
+    → (bytes_eq (first (parts_of cut text)) name ≡ bytes_eq (first (parts_of cut (drop at text))) (drop at name))
+    → later (parts_of cut text) ≡ later (parts_of cut (drop at text))
+    → (bytes_eq (first (parts_of cut text)) name ≡ bytes_eq (first (parts_of cut (drop (at + 1) text))) (drop (at + 1) name))
+    × (later (parts_of cut text) ≡ later (parts_of cut (drop (at + 1) text)))
+same_more cut at text name within inside other same part rest =
+    let here : drop at text ≡ slice_index text at ∷ drop (at + 1) text = drop_more text at 0 within in
+    let there : drop at name ≡ slice_index name at ∷ drop (at + 1) name = drop_more name at 0 inside in (
+      part ∙ ap (λ t. bytes_eq (first (parts_of cut t)) (drop at name)) here
+          ∙ ap (bytes_eq (first (parts_of cut (slice_index text at ∷ drop (at + 1) text)))) there
+          ∙ both_begin cut (slice_index text at) (slice_index name at) (drop (at + 1) text) (drop (at + 1) name) other same,
+      rest ∙ ap (λ t. later (parts_of cut t)) here ∙ later_same cut (slice_index text at) (drop (at + 1) text) other,
+    )
+
+-- a text that begins with another byte than a word, or with a cut, doesn't have it as its first part
+pub other_begins : (cut : ℕ) (text name : List ℕ) → 0 < length name
+    → (0 < length text → (get_or text 0 0 == cut) ≡ false → (get_or text 0 0 == get_or name 0 0) ≡ false)
+    → bytes_eq (first (parts_of cut text)) name ≡ false
+other_begins cut text [] more differs = absurd (omega (arith, more))
+other_begins cut [] (d ∷ name) more differs = refl
+other_begins cut (c ∷ text) (d ∷ name) more differs = chosen (c == cut) (parts_of cut text) (differs (omega arith)) where
+  onto : (parts : List (List ℕ)) → (c == d) ≡ false → bytes_eq (first (onto_first c parts)) (d ∷ name) ≡ false
+  onto [] is = rw is refl
+  onto (part ∷ parts) is = rw is refl
+
+  chosen : (b : Bool) (parts : List (List ℕ)) → (b ≡ false → (c == d) ≡ false) → bytes_eq (first (if b then [] ∷ parts else onto_first c parts)) (d ∷ name) ≡ false
+  chosen true parts is = refl
+  chosen false parts is = onto parts (is refl)
+
+-- where both are gone over, the word is the first part of the text, and its only one
+pub both_end : (cut at : ℕ) (text name : List ℕ) → at ≡ length text → at ≡ length name
+    → (bytes_eq (first (parts_of cut text)) name ≡ bytes_eq (first (parts_of cut (drop at text))) (drop at name))
+    → later (parts_of cut text) ≡ later (parts_of cut (drop at text))
+    → (bytes_eq (first (parts_of cut text)) name ≡ true) × (later (parts_of cut text) ≡ [])
+both_end cut at text name ended over part rest =
+    let none : drop at text ≡ [] = drop_all at text (omega (arith, ended)) in
+    let gone : drop at name ≡ [] = drop_all at name (omega (arith, over)) in
+    (part ∙ rw (none, gone) refl, rest ∙ rw none refl)
+
+-- and where a cut follows
+pub cut_follows : (cut at : ℕ) (text name : List ℕ) → at < length text → slice_index text at ≡ cut → at ≡ length name
+    → (bytes_eq (first (parts_of cut text)) name ≡ bytes_eq (first (parts_of cut (drop at text))) (drop at name))
+    → later (parts_of cut text) ≡ later (parts_of cut (drop at text))
+    → (bytes_eq (first (parts_of cut text)) name ≡ true)
+    × (later (parts_of cut text) ≡ parts_of cut (take (length text - (at + 1)) (drop (at + 1) text)))
+cut_follows cut at text name within is over part rest =
+    let here : drop at text ≡ slice_index text at ∷ drop (at + 1) text = drop_more text at 0 within in
+    let cuts : (slice_index text at == cut) ≡ true = grind (arith, tests, is) in
+    let gone : drop at name ≡ [] = drop_all at name (omega (arith, over)) in (
+      part ∙ ap (λ t. bytes_eq (first (parts_of cut t)) (drop at name)) here ∙ rw (cuts, gone) refl,
+      rw (take_rest text (at + 1)) (rest ∙ ap (λ t. later (parts_of cut t)) here ∙ rw cuts refl),
+    )
+
+-- but not where another byte follows
+pub more_follows : (cut at : ℕ) (text name : List ℕ) → at < length text → (slice_index text at ≡ cut → ⊥) → at ≡ length name
+    → (bytes_eq (first (parts_of cut text)) name ≡ bytes_eq (first (parts_of cut (drop at text))) (drop at name))
+    → bytes_eq (first (parts_of cut text)) name ≡ false
+more_follows cut at text name within is over part =
+    let here : drop at text ≡ slice_index text at ∷ drop (at + 1) text = drop_more text at 0 within in
+    let other : (slice_index text at == cut) ≡ false = grind (arith, tests, is) in
+    let gone : drop at name ≡ [] = drop_all at name (omega (arith, over)) in
+    part ∙ ap (λ t. bytes_eq (first (parts_of cut t)) (drop at name)) here ∙ rw (other, gone) (onto (slice_index text at) (parts_of cut (drop (at + 1) text))) where
+      onto : (c : ℕ) (parts : List (List ℕ)) → bytes_eq (first (onto_first c parts)) [] ≡ false
+      onto c [] = refl
+      onto c (part ∷ parts) = refl

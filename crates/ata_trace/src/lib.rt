@@ -18,6 +18,7 @@ mod refusal;
 mod script_fault;
 mod script_op;
 mod step;
+mod step_reading;
 mod step_text;
 mod text;
 mod told;

@@ -1,5 +1,5 @@
-ghost use Rattle.std.specs.Prelude.{◌≡◌, ◌<◌, ◌≤◌, ◌+◌, ◌++◌, ◌∷◌, [], codes, decimal, length};
-ghost use Rattle.hex.specs.Hex.{encode_lower};
+ghost use Rattle.std.specs.Prelude.{◌≡◌, ◌<◌, ◌≤◌, ◌+◌, ◌++◌, ◌∷◌, [], codes, decimal, length, slice_index};
+ghost use Rattle.hex.specs.Hex.{encode_lower, lower_digits};
 ghost use Rattle.ata_trace.specs.Words.{byte_word};
 
 use itoa::write_digits;
@@ -103,16 +103,13 @@ impl Line {
     }
 
     /// Appends a space and the byte as two lower-case hexadecimal digits.
+    #[tactic(auto, unfolding(hex::specs::Hex::encode_with))]
     pub fn hex(&mut self, byte: u8)
         requires { length self.old + 3 ≤ 512 }
         ensures text { self.new ≡ self.old ++ 32 ∷ byte_word byte }
         ensures len { length self.new ≡ length self.old + 3 }
     {
-        let mut digits = [0u8; 2];
-        match hex::encode_to_slice([byte], &mut digits) {
-            Ok(()) => self.word(&digits),
-            Err(_) => unreachable!(),
-        }
+        self.text(&[b' ', hex_digit(byte / 16), hex_digit(byte % 16)]);
     }
 
     /// Appends a space and the 20 bytes of a frame as 40 lower-case hexadecimal digits.
@@ -136,6 +133,14 @@ impl Line {
     {
         self.text(b"\n");
     }
+}
+
+// A lower-case hexadecimal digit.
+fn hex_digit(n: u8) -> u8
+    requires { n < 16 }
+    ensures { result ≡ slice_index lower_digits n }
+{
+    b"0123456789abcdef"[n as usize]
 }
 
 // How many decimal digits a number has.

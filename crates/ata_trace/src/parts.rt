@@ -1,4 +1,4 @@
-ghost use Rattle.std.specs.Prelude.{◌≡◌, ◌<◌, ◌^◌, ◌∷◌, [], List, ℕ, IfSome, MatchOption, decimal, length, false};
+ghost use Rattle.std.specs.Prelude.{◌≡◌, ◌<◌, ◌≤◌, ◌^◌, ◌∷◌, [], List, ℕ, IfSome, MatchOption, decimal, drop, length, true, false};
 ghost use Rattle.std.specs.Option.{option_map_or};
 ghost use Rattle.std.specs.Str.{bytes_eq};
 ghost use Rattle.memchr.specs.Find.{IsFirstByte, is_byte};
@@ -70,20 +70,37 @@ impl<'a, const CUT: u8> Parts<'a, CUT> {
             Some(text) => text,
             None => return name.is_empty(),
         };
-        if !may_begin(text, name) {
-            return false;
+        match behind(text, name, CUT) {
+            Some(rest) => {
+                self.rest = rest;
+                true
+            }
+            None => false,
         }
-        let (part, rest) = cut_at(text, CUT);
-        let found = same(part, name);
-        if found {
-            self.rest = rest;
-        }
-        found
     }
 
     /// Takes the first part where it is a decimal number, without sign and leading zeros, that is
     /// read in one pass; none is taken where it isn't, and also before some numbers of 20 digits.
     pub fn short_number(&mut self) -> Option<u64>
+        requires { CUT < 48 }
+        ensures { MatchOption result (self.new ≡ self.old) (λ n. (n < 2 ^ 64) × (self.old ≡ decimal n ∷ self.new)) }
+    {
+        let text = match self.rest {
+            Some(text) => text,
+            None => return None,
+        };
+        match digit_alone(text, CUT) {
+            Some((digit, rest)) => {
+                self.rest = rest;
+                Some(u64::from(digit))
+            }
+            None => self.longer_number(),
+        }
+    }
+
+    // The same of a number with any digits.
+    #[inline(never)]
+    fn longer_number(&mut self) -> Option<u64>
         requires { CUT < 48 }
         ensures { MatchOption result (self.new ≡ self.old) (λ n. (n < 2 ^ 64) × (self.old ≡ decimal n ∷ self.new)) }
     {
@@ -156,11 +173,61 @@ fn cut_at(text: &[u8], cut: u8) -> (&[u8], Option<&[u8]>)
     }
 }
 
-// Whether a text may have this first part, by the first byte of both.
-fn may_begin(text: &[u8], name: &[u8]) -> bool
-    ensures { (cut : ℕ) → result ≡ false → bytes_eq (first (parts_of cut text.now)) name.now ≡ false }
+// The digit that is the first part of a text, and what follows it, if a cut stands there; `None` where
+// the first part isn't one digit.
+#[tactic(auto, using(crate::proofs::NumberLemmas::digit_ends, crate::proofs::NumberLemmas::digit_cut))]
+fn digit_alone(text: &[u8], cut: u8) -> Option<(u8, Option<&[u8]>)>
+    requires { cut < 48 }
+    ensures { IfSome result (λ found. parts_of cut text.now
+        ≡ decimal found.0 ∷ option_map_or (λ rest. parts_of cut rest.now) found.1 []) }
 {
-    text.is_empty() || name.is_empty() || text[0] == name[0]
+    if text.is_empty() || text[0] < b'0' || text[0] > b'9' {
+        return None;
+    }
+    let digit = text[0] - b'0';
+    if text.len() == 1 {
+        return Some((digit, None));
+    }
+    if text[1] != cut {
+        return None;
+    }
+    Some((digit, Some(&text[2..])))
+}
+
+// What stands behind the first part of a text, if a cut stands there, where that part is this name.
+#[tactic(auto, using(crate::proofs::PartLemmas::both_end, crate::proofs::PartLemmas::cut_follows, crate::proofs::PartLemmas::more_follows))]
+fn behind<'a>(text: &'a [u8], name: &[u8], cut: u8) -> Option<Option<&'a [u8]>>
+    ensures { MatchOption result (bytes_eq (first (parts_of cut text.now)) name.now ≡ false)
+        (λ rest. (bytes_eq (first (parts_of cut text.now)) name.now ≡ true)
+        × (later (parts_of cut text.now) ≡ option_map_or (λ rest. parts_of cut rest.now) rest [])) }
+{
+    let end = common(text, name, cut);
+    if end < name.len() {
+        return None;
+    }
+    if end == text.len() {
+        return Some(None);
+    }
+    if text[end] != cut {
+        return None;
+    }
+    Some(Some(&text[end + 1..]))
+}
+
+// How many bytes stand at the beginning of both texts, up to the first cut.
+fn common(text: &[u8], name: &[u8], cut: u8) -> usize
+    ensures within { (result ≤ length text.now) × (result ≤ length name.now) }
+    ensures part { bytes_eq (first (parts_of cut text.now)) name.now
+        ≡ bytes_eq (first (parts_of cut (drop result text.now))) (drop result name.now) }
+    ensures rest { later (parts_of cut text.now) ≡ later (parts_of cut (drop result text.now)) }
+    ensures ended { result < length name.now
+        → bytes_eq (first (parts_of cut (drop result text.now))) (drop result name.now) ≡ false }
+{
+    let mut at = 0;
+    while at < name.len() && at < text.len() && text[at] == name[at] && text[at] != cut {
+        at += 1;
+    }
+    at
 }
 
 // The place of the first byte of this value.

@@ -7,8 +7,9 @@ ghost use Rattle.ata_trace.specs.declared.step.Step.{Step};
 ghost use Rattle.ata_trace.specs.declared.who.Who.{Who};
 
 use crate::parts::{Words, same, without_end};
-use crate::reading::{drive, fault, id, long, number, op, place, tag, time, who};
+use crate::reading::{drive, id, long, number, place, tag, time, who};
 use crate::step::Step;
+use crate::step_reading::{fault, op};
 use crate::text::head_line;
 use crate::who::Who;
 use ata_base::{Allowance, Ms, Pick, Tick, Wait};

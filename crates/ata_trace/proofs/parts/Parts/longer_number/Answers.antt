@@ -1,6 +1,6 @@
 use Rattle.std.proofs.Common.{arith}
 use Rattle.ata_trace.proofs.NumberLemmas.{first_alone, first_cut}
-use Rattle.ata_trace.proofs.parts.Parts.short_number.Goals as goal
+use Rattle.ata_trace.proofs.parts.Parts.longer_number.Goals as goal
 
 pub returns-then-at-text : goal.returns-then-at-text
 returns-then-at-text g c =
