@@ -1,4 +1,4 @@
-//! The tests of the crates that others stand on, a file a crate: each public call once, with values from outside. They
+//! The tests of the crates that others stand on, a file or two a crate: each public call once, with values from outside. They
 //! stand in one crate of their own, since a crate with tests is proved a second time with them.
 #![tactic(auto)]
 
@@ -16,6 +16,8 @@ mod ata_log_tests;
 mod ata_script_tests;
 #[cfg(test)]
 mod ata_tf_tests;
+#[cfg(test)]
+mod ata_trace_acts_tests;
 #[cfg(test)]
 mod ata_trace_tests;
 #[cfg(test)]
