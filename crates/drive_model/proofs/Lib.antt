@@ -1,4 +1,5 @@
 pub mod HeldTags
+pub mod Kept
 pub mod Marked
 pub mod Picked
 pub mod Stored

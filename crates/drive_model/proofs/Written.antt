@@ -1,6 +1,6 @@
 -- Sectors written one after the other, and read one after the other.
-use Rattle.std.proofs.Common.{◌≡◌, ◌∙◌, ℕ, ◌+◌, ◌<◌, ◌≤◌, List, [], ◌∷◌, ◌++◌, suc, zero, length, get_or, take, drop, replicate, slice_set, refl, ap, arith, add-one}
-use Rattle.std.proofs.lemmas.List.{set_past, get_or-take, get_or-drop, get_or_past, length-take, length-append, length-replicate, take_more, take_all}
+use Rattle.std.proofs.Common.{◌≡◌, ◌∙◌, ℕ, ◌+◌, ◌<◌, ◌≤◌, List, [], ◌∷◌, ◌++◌, suc, zero, length, get_or, take, drop, replicate, slice_set, refl, sym, ap, arith, add-one}
+use Rattle.std.proofs.lemmas.List.{set_past, length-set, get_or-take, get_or-drop, get_or_past, length-take, length-append, length-replicate, take_more, take_all}
 use Rattle.drive_model.specs.Sectors.{written, found}
 
 -- nothing is written
@@ -31,6 +31,22 @@ written_more lba k v xs = rw (add-one k) (more lba k (lba + k) v xs refl)
 -- past the end none is
 pub written_past : {A : Type 0} (lba k : ℕ) (v : A) (xs : List A) → length (written lba k v xs) ≤ lba + k → written lba (k + 1) v xs ≡ written lba k v xs
 written_past lba k v xs past = written_more lba k v xs ∙ set_past (written lba k v xs) (lba + k) v past
+
+-- a loop writes one sector more
+pub next_written : {A : Type 0} (lba k at : ℕ) (v : A) (xs was next : List A) → (was ≡ written lba k v xs) × (length was ≡ length xs) → at ≡ lba + k → next ≡ slice_set was at v
+    → (next ≡ written lba (k + 1) v xs) × (length next ≡ length xs)
+next_written lba k at v xs was next done here made = (
+  made ∙ ap (λ ys. slice_set ys at v) done.0 ∙ ap (λ i. slice_set (written lba k v xs) i v) here ∙ sym (written_more lba k v xs),
+  ap length made ∙ length-set was at v ∙ done.1,
+)
+
+-- or none, past the end
+pub next_past : {A : Type 0} (lba k : ℕ) (v : A) (xs was next : List A) → (was ≡ written lba k v xs) × (length was ≡ length xs) → length was ≤ lba + k → next ≡ was
+    → (next ≡ written lba (k + 1) v xs) × (length next ≡ length xs)
+next_past lba k v xs was next done past same = (
+  same ∙ done.0 ∙ sym (written_past lba k v xs (omega (arith, past, ap length done.0))),
+  ap length same ∙ done.1,
+)
 
 -- so many are read
 pub found_length : (lba count : ℕ) (xs : List ℕ) → length (found lba count xs) ≡ count

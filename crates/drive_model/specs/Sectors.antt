@@ -1,10 +1,10 @@
 -- The sectors of a drive: by number the stamp of each, and whether it is bad.
-use Rattle.std.specs.Prelude.{ℕ, zero, suc, ◌+◌, ◌≤◌, Bool, true, false, List, [], ◌∷◌, ◌++◌, Option, option_map, take, drop, replicate, position, slice_set}
+use Rattle.std.specs.Prelude.{ℕ, zero, suc, ◌+◌, ◌-◌, ◌≤◌, Bool, true, false, List, [], ◌∷◌, ◌++◌, Option, length, option_map, take, drop, replicate, position, slice_set}
 use Rattle.ata_base.specs.Limits.{most_sectors}
 use Rattle.ata_base.specs.declared.op.Op.{Op}
 use Rattle.ata_base.specs.declared.op.Op.TheVariants.{Read, Write}
 
--- No part of the rules of a port, but words of the code: IsShort, SectorsView.
+-- No part of the rules of a port, but words of the code: IsShort, SectorsView, stamps_of.
 
 -- an operation that gives at most 16 stamps, as many as the answer of one command has
 abbrev pub IsShort : Op → Type 0
@@ -48,3 +48,7 @@ spoiled lba bad = slice_set bad lba true
 pub record SectorsView : Type 0 where
   pub stamps : List ℕ
   pub bad : List Bool
+
+-- so many stamps, of which the first are kept and each other one is 0
+abbrev pub stamps_of : List ℕ → ℕ → List ℕ
+stamps_of kept count = kept ++ replicate (count - length kept) 0

@@ -23,8 +23,8 @@ use std::alloc::Global;
 use std::marker::Model;
 
 /// A simulated drive. A contract sees it beside its spare: for how many more issues it has memory. Only `new` and
-/// `reserve` take memory, and `take` and `work` cost what the command's sectors and the held issues cost, whatever the
-/// size of the drive is.
+/// `reserve` take memory. `take` and `work` cost what the command's sectors and the held issues cost, whatever the
+/// size of the drive is; a write also clears the sectors before its own that no write has reached yet, each sector once.
 #[derive(Drop)]
 pub struct Drive {
     identity: Identity,

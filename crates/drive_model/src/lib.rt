@@ -17,6 +17,7 @@ mod log_told;
 mod marks;
 mod outcome;
 mod queued_error;
+mod sector_stamps;
 mod sectors;
 
 pub use act::DriveAct;

@@ -1,7 +1,8 @@
-ghost use Rattle.std.specs.Prelude.{◌≡◌, ◌+◌, ◌<◌, ◌≤◌, ◌^◌, false, length, replicate, slice_index, IfOk, IfSome, if◌then◌else◌};
+ghost use Rattle.std.specs.Prelude.{◌≡◌, ◌+◌, ◌<◌, ◌≤◌, false, length, replicate, slice_index, IfOk, IfSome, if◌then◌else◌};
 ghost use Rattle.drive_model.specs.Sectors.{IsShort, written, stored, healed, found, stamps_read, least_bad, spoiled};
 
 use crate::marks::Marks;
+use crate::sector_stamps::SectorStamps;
 use ata_base::{Op, OutOfMemory, Stamps};
 use std::alloc::Global;
 use std::marker::Model;
@@ -10,7 +11,7 @@ use std::marker::Model;
 /// is good, and isn't written.
 #[derive(Drop)]
 pub struct Sectors {
-    stamps: Vec<u64>,
+    stamps: SectorStamps,
     bad: Marks,
 }
 
@@ -20,9 +21,9 @@ impl Model for Sectors {
 
     ghost Value = { SectorsView };
 
-    ghost view = { λ s. record { stamps = s.stamps.items; bad = s.bad } };
+    ghost view = { λ s. record { stamps = s.stamps; bad = s.bad } };
 
-    ghost invariant = { λ s. length s.bad ≡ length s.stamps.items };
+    ghost invariant = { λ s. length s.bad ≡ length s.stamps };
 }
 
 impl Sectors {
@@ -31,7 +32,7 @@ impl Sectors {
         ensures stamps { IfOk result (λ s. s.stamps ≡ replicate count 0) }
         ensures bad { IfOk result (λ s. s.bad ≡ replicate count false) }
     {
-        let stamps = vec![in alloc; 0; count as usize]?;
+        let stamps = SectorStamps::new(alloc, count as usize)?;
         let bad = Marks::new(alloc, count as usize)?;
         Ok(Sectors { stamps, bad })
     }
@@ -86,7 +87,7 @@ impl Sectors {
 }
 
 /// The stamps of so many sectors from there on, 0 past the end.
-fn found(stamps: &[u64], lba: u64, count: u16) -> Stamps
+fn found(stamps: &SectorStamps, lba: u64, count: u16) -> Stamps
     requires { count ≤ 16 }
     ensures { result ≡ found lba count stamps.now }
 {
@@ -98,21 +99,21 @@ fn found(stamps: &[u64], lba: u64, count: u16) -> Stamps
 }
 
 /// The stamp of the sector so many further on, 0 past the end.
-fn stamp_at(stamps: &[u64], lba: u64, step: u16) -> u64
+fn stamp_at(stamps: &SectorStamps, lba: u64, step: u16) -> u64
     ensures { result ≡ slice_index stamps.now (lba + step) }
 {
     let at = lba.saturating_add(u64::from(step));
     if at < stamps.len() as u64 {
-        stamps[at as usize]
+        stamps.get(at as usize)
     } else {
         0
     }
 }
 
 /// A write gives its stamp to each of its sectors.
-fn store(stamps: &mut Vec<u64>, op: &Op)
-    ensures items { stamps.new.items ≡ stored op.now stamps.old.items }
-    ensures size { length stamps.new.items ≡ length stamps.old.items }
+fn store(stamps: &mut SectorStamps, op: &Op)
+    ensures stamps { stamps.new ≡ stored op.now stamps.old }
+    ensures size { length stamps.new ≡ length stamps.old }
 {
     if let Op::Write { lba, count, stamp } = *op {
         write(stamps, lba, count, stamp);
@@ -121,21 +122,20 @@ fn store(stamps: &mut Vec<u64>, op: &Op)
 
 /// So many sectors from there on get this stamp.
 #[tactic(auto, using(crate::proofs::Written::written_more, crate::proofs::Written::written_past, crate::proofs::Written::written_none))]
-fn write(stamps: &mut Vec<u64>, lba: u64, count: u16, stamp: u64)
-    ensures items { stamps.new.items ≡ written lba count stamp stamps.old.items }
-    ensures size { length stamps.new.items ≡ length stamps.old.items }
+fn write(stamps: &mut SectorStamps, lba: u64, count: u16, stamp: u64)
+    ensures stamps { stamps.new ≡ written lba count stamp stamps.old }
+    ensures size { length stamps.new ≡ length stamps.old }
 {
     for step in 0..count {
         let at = lba.saturating_add(u64::from(step)) as usize;
         if at < stamps.len() {
-            stamps[at] = stamp;
+            stamps.put(at, stamp);
         }
     }
 }
 
 /// A write makes each of its sectors good.
 fn heal(bad: &mut Marks, op: &Op)
-    requires { length bad.old < 2 ^ 64 }
     ensures marks { bad.new ≡ healed op.now bad.old }
     ensures size { length bad.new ≡ length bad.old }
 {
@@ -147,7 +147,6 @@ fn heal(bad: &mut Marks, op: &Op)
 /// So many sectors from there on are good.
 #[tactic(auto, using(crate::proofs::Written::written_more, crate::proofs::Written::written_past, crate::proofs::Written::written_none))]
 fn mend(bad: &mut Marks, lba: u64, count: u16)
-    requires { length bad.old < 2 ^ 64 }
     ensures marks { bad.new ≡ written lba count false bad.old }
     ensures size { length bad.new ≡ length bad.old }
 {

@@ -4,5 +4,5 @@ use Rattle.drive_model.proofs.sectors.write.Given as goal
 
 abbrev pub invariant-loop-step : goal.invariant-loop-step
 invariant-loop-step l =
-    (l.stamps.items ≡ written l.lba l.step l.stamp l.initial.stamps.items)
-    × (length l.stamps.items ≡ length l.initial.stamps.items)
+    (l.stamps ≡ written l.lba l.step l.stamp l.initial.stamps)
+    × (length l.stamps ≡ length l.initial.stamps)

@@ -1,7 +1,7 @@
-use Rattle.std.proofs.Common.{◌≡◌, rules, ap, arith}
+use Rattle.std.proofs.Common.{◌≡◌, rules, arith}
 use Rattle.std.proofs.lemmas.Fn.{filter_same}
 use Rattle.std.proofs.lemmas.List.Elements.{All-filter}
-use Rattle.drive_model.specs.Holding.{without_issue, HoldingView}
+use Rattle.drive_model.specs.Holding.{without_issue}
 use Rattle.drive_model.specs.Sectors.{IsShort}
 use Rattle.drive_model.proofs.holding.Holding.remove.Goals as goal
 

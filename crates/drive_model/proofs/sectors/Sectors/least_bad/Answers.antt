@@ -11,7 +11,7 @@ returns-then-get-clause-value c =
     let same : c.self.inside.bad ≡ c.args.self.now.bad = ap bad_of c.self.view_is in
     let at : c.saturating_add-at.result ≡ c.args.lba + c.loop-step.step = omega (arith, c.saturating_add-at.ensures, c.from.ensures, c.if-at-len.true, c.len.type_inv) in
     let within : c.args.lba + c.loop-step.step < length c.args.self.now.bad =
-    rw (← same) (omega (arith, at, c.if-at-len.true, c.len.ensures, c.self.inside.stamps.ok.0, c.self.invariant)) in
+    rw (← same) (omega (arith, at, c.if-at-len.true, c.len.ensures, c.self.invariant)) in
     ap Some at
     ∙ first_bad c.args.lba c.args.count c.loop-step.step c.args.self.now.bad within c.loop-step-test.true c.loop-step.invariant
     (ap (λ l. get_or l (c.args.lba + c.loop-step.step) false) (sym same)
