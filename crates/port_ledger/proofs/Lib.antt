@@ -1,0 +1,12 @@
+pub mod CommandLemmas
+pub mod CountLemmas
+pub mod DriveLemmas
+pub mod FlightLemmas
+pub mod HeadLemmas
+pub mod JudgeLemmas
+pub mod ListLemmas
+pub mod LiveLemmas
+pub mod NotedLemmas
+pub mod QueueLemmas
+pub mod RingLemmas
+pub mod TaskLemmas

@@ -1,0 +1,258 @@
+ghost use Rattle.std.specs.Prelude.{◌≡◌, ◌∷◌, ◌<◌, [], IfOk, OnOk, OnErr};
+ghost use Rattle.ata_trace.specs.Event.Event.{Entered, Told};
+ghost use Rattle.ata_trace.specs.declared.step.Step.TheVariants as steps;
+ghost use Rattle.ata_trace.specs.declared.who.Who.TheVariants as by;
+ghost use Rattle.port_past.specs.Clock.{clock};
+ghost use Rattle.port_ledger.specs.LedgerView.{Goes, past};
+ghost use Rattle.port_ledger.specs.Sound.{IsSound};
+
+mod commands;
+mod places;
+mod port;
+
+use crate::attachments::{Attachments, note_attachments};
+use crate::causes::{
+    Causes, Failures, begin_causes, begin_noted, no_failures, note_causes, note_noted,
+};
+use crate::command_queues::CommandQueues;
+use crate::command_table::CommandTable;
+use crate::completion_list::CompletionList;
+use crate::drive_list::DriveList;
+use crate::drive_notes::{note_completions, note_drives};
+use crate::flights::Flights;
+use crate::identities::{
+    DriveNumbers, Identities, no_drives, note_ident_answered, note_identified_by,
+};
+use crate::issue_notes::{Judgements, exclusive_after, no_judgements, note_judgements};
+use crate::links::{Links, booted, note_links};
+use crate::live_flags::LiveFlags;
+use crate::modes::{Modes, note_modes};
+use crate::notes;
+use crate::port_state::{PortState, note_state};
+use crate::probes::{Probes, no_hotplugs, note_probes};
+use crate::recovery_told::{RecoveryTold, note_recovery};
+use crate::ring_list::RingList;
+use crate::task_list::TaskList;
+use ata_base::{MOST_ACTS, MOST_PLACES, Ms, OutOfMemory, Place};
+use ata_script::PortHead;
+use ata_trace::{Act, Journal, Step, Who};
+use std::alloc::Global;
+use std::marker::Model;
+
+/// How many events there may be before an entry, so that no count of them reaches 2^64.
+const MOST_EVENTS: u64 = 18_446_744_073_709_551_486;
+
+/// The journal of a port, and beside it every part that keeps a reading of the journal's past.
+///
+/// It changes in two ways: `begin` begins an entry, and `note` tells an act of it. Each is an event; none of the parts
+/// that count counts more than the events.
+#[derive(Drop)]
+pub struct Ledger {
+    journal: Journal,
+    head: PortHead,
+    begins: usize,
+    room: usize,
+    events: u64,
+    step: Step,
+    clock: u64,
+    line: bool,
+    state: PortState,
+    issues: u64,
+    settlings: u64,
+    attachments: Attachments,
+    commands: CommandTable,
+    flights: Flights,
+    links: Links,
+    drives: DriveList,
+    completions: CompletionList,
+    causes: Causes,
+    recovery: RecoveryTold,
+    probes: Probes,
+    modes: Modes,
+    identities: Identities,
+    identified_by: DriveNumbers,
+    ident_answered: [bool; MOST_PLACES],
+    live: LiveFlags,
+    queues: CommandQueues,
+    rings: RingList,
+    noted: Failures,
+    judgements: Judgements,
+    exclusive: Option<Place>,
+    tasks: TaskList,
+}
+
+impl Model for Ledger {
+    ghost use Rattle.port_ledger.specs.LedgerView.{LedgerView};
+
+    ghost Value = { LedgerView };
+
+    ghost use Rattle.port_ledger.specs.Tracks.{Tracks};
+
+    ghost view = { λ l. record {
+      head = l.head;
+      entries = l.journal.entries;
+      begins = l.begins;
+      room = l.room;
+    } };
+
+    ghost invariant = { Tracks };
+}
+
+impl Ledger {
+    /// A journal in which the boot entry of a port with this head has begun. There is room for one entry and 128 acts.
+    pub fn new(alloc: Global, head: PortHead) -> Result<Ledger, OutOfMemory>
+        ensures head { IfOk result (λ l. l.head ≡ head) }
+        ensures past { IfOk result (λ l. past l ≡ Entered 0 by.Boot 0 steps.Boot ∷ []) }
+        ensures begins { IfOk result (λ l. l.begins ≡ 1) }
+        ensures room { IfOk result (λ l. l.room ≡ 128) }
+    {
+        let mut journal = Journal::new(alloc);
+        journal.reserve()?;
+        journal.begin(Ms { n: 0 }, Who::Boot, 0, Step::Boot);
+        let links = booted(head.drives.items());
+        let drives = DriveList::new(alloc, head.drives.items())?;
+        let mut ledger = Ledger {
+            journal,
+            head,
+            begins: 0,
+            room: 0,
+            events: 1,
+            step: Step::Boot,
+            clock: 0,
+            line: false,
+            state: PortState::new(),
+            issues: 0,
+            settlings: 0,
+            attachments: Attachments::new(),
+            commands: CommandTable::new(alloc)?,
+            flights: Flights::new(),
+            links,
+            drives,
+            completions: CompletionList::new(alloc)?,
+            causes: Causes::new(),
+            recovery: RecoveryTold::new(),
+            probes: no_hotplugs(),
+            modes: Modes::new(),
+            identities: Identities::new(alloc)?,
+            identified_by: no_drives(),
+            ident_answered: [false; MOST_PLACES],
+            live: LiveFlags::new(alloc)?,
+            queues: CommandQueues::new(alloc)?,
+            rings: RingList::new(alloc)?,
+            noted: no_failures(),
+            judgements: no_judgements(),
+            exclusive: None,
+            tasks: TaskList::new(alloc)?,
+        };
+        ledger.reserve()?;
+        Ok(ledger)
+    }
+
+    /// Makes room for one entry and 128 acts. The journal stays; after a refusal the room stays too.
+    pub fn reserve(&mut self) -> Result<(), OutOfMemory>
+        ensures ok { OnOk result (self.new ≡ record self.old { begins = 1; room = 128 }) }
+        ensures err { OnErr result (self.new ≡ self.old) }
+    {
+        if self.events > MOST_EVENTS {
+            return Err(OutOfMemory);
+        }
+        self.journal.reserve()?;
+        self.commands.reserve(MOST_ACTS)?;
+        self.drives.reserve(MOST_ACTS)?;
+        self.queues.reserve(MOST_ACTS)?;
+        self.begins = 1;
+        self.room = MOST_ACTS;
+        Ok(())
+    }
+
+    /// Begins an entry, at the time by the clock.
+    pub fn begin(&mut self, who: Who, seq: u64, step: &Step)
+        requires { 0 < self.old.begins }
+        ensures { Goes self.old self.new 1 0 (Entered (clock (past self.old)) who seq step.now ∷ past self.old) }
+    {
+        self.journal.begin(Ms { n: self.clock }, who, seq, *step);
+        let served = !self.state.frozen && self.line;
+        begin_noted(&mut self.noted, &self.causes.tferr, step, served);
+        begin_causes(&mut self.causes, step, served);
+        self.line = notes::line_at(step, self.state.frozen, self.line);
+        self.settlings = notes::settlings_at(&who, self.settlings);
+        self.step = *step;
+        self.events += 1;
+        self.begins -= 1;
+    }
+
+    /// Tells an act of the last entry.
+    pub fn note(&mut self, act: Act)
+        requires room { 0 < self.old.room }
+        requires sound { IsSound self.old.head (past self.old) act }
+        ensures { Goes self.old self.new 0 1 (Told act ∷ past self.old) }
+    {
+        // A part that reads another as it was before the act comes before that one.
+        note_judgements(
+            &mut self.judgements,
+            &act,
+            &self.flights,
+            &self.noted,
+            &self.recovery.logs,
+        );
+        self.exclusive = exclusive_after(&act, &self.flights, self.exclusive);
+        notes::note_queues(
+            &mut self.queues,
+            &act,
+            &self.step,
+            &self.attachments.detachments,
+            &self.commands,
+        );
+        notes::note_tasks(
+            &mut self.tasks,
+            &act,
+            self.head.pmp,
+            self.state.frozen,
+            &self.attachments.attached,
+            &self.recovery,
+        );
+        self.rings.note(&act, self.clock, &self.modes.dubious);
+        note_noted(&mut self.noted, &act);
+        note_ident_answered(&mut self.ident_answered, &act, &self.links, &self.drives);
+        note_identified_by(&mut self.identified_by, &act, &self.links);
+        note_completions(
+            &mut self.completions,
+            &act,
+            &self.step,
+            &self.flights,
+            &self.links,
+            &self.drives,
+        );
+        note_drives(
+            &mut self.drives,
+            &act,
+            &self.step,
+            self.clock,
+            &self.commands,
+            &self.flights,
+            &self.links,
+        );
+        note_modes(&mut self.modes, &act, &self.commands, self.events);
+        notes::note_slots(&mut self.flights, &act, &self.commands, self.issues);
+        notes::note_commands(
+            &mut self.commands,
+            &mut self.live,
+            &act,
+            &self.step,
+            &self.attachments.detachments,
+        );
+        note_links(&mut self.links, &act, &self.step);
+        note_attachments(&mut self.attachments, &act, self.events);
+        note_causes(&mut self.causes, &act, &self.step, self.head.pmp);
+        note_recovery(&mut self.recovery, &act, self.events);
+        note_probes(&mut self.probes, &act, self.clock);
+        note_state(&mut self.state, &act, self.clock);
+        self.identities.note(&act);
+        self.issues = notes::issue_count_after(&act, self.issues);
+        self.clock = notes::clock_after(&act, self.clock);
+        self.line = notes::line_after(&act, self.line);
+        self.journal.add(act);
+        self.events += 1;
+        self.room -= 1;
+    }
+}

@@ -1,0 +1,27 @@
+//! The ledger of a port: the journal, and beside it every part that keeps a reading of the journal's past.
+#![tactic(auto)]
+
+mod answers;
+mod attachments;
+mod causes;
+mod command_queues;
+mod command_table;
+mod completion_list;
+mod drive_list;
+mod drive_notes;
+mod flights;
+mod identities;
+mod issue_notes;
+mod ledger;
+mod links;
+mod live_flags;
+mod modes;
+mod notes;
+mod numbered;
+mod port_state;
+mod probes;
+mod recovery_told;
+mod ring_list;
+mod task_list;
+
+pub use ledger::Ledger;
