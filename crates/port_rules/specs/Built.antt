@@ -1,7 +1,7 @@
 use Rattle.std.specs.Prelude.{◌≡◌, Bool, true, false}
 use Rattle.ata_script.specs.declared.port_head.PortHead.{PortHead}
 use Rattle.ata_trace.specs.declared.step.Step.{Step}
-use Rattle.ata_trace.specs.declared.step.Step.TheVariants.{Submit, Kick, Work, Irq, Boot}
+use Rattle.ata_trace.specs.declared.step.Step.TheVariants.{Submit, Kick, Work, Irq, Stray, Boot}
 
 -- No part of the rules of a port: how much of them the program has. It widens with each step that is built, and goes with
 -- the last one.
@@ -12,6 +12,7 @@ is_step_built (Submit id place op allow wait) = true
 is_step_built (Kick place) = true
 is_step_built (Work place pick) = true
 is_step_built Irq = true
+is_step_built (Stray tag) = true
 is_step_built Boot = true
 is_step_built _ = false
 

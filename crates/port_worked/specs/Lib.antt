@@ -30,6 +30,7 @@ pub mod SecondHang
 pub mod ShallowQueue
 pub mod SlowDrive
 pub mod SlowerSpeed
+pub mod StrayInterrupt
 pub mod ThirtyTwoTags
 pub mod ThreePhyChanges
 pub mod TwoPlacesInFlight

@@ -20,7 +20,7 @@ pub use places::{
 pub use plugs::{another_drive, three_phy_changes};
 pub use runs::{
     answers_in_tag_order, every_operation, flush_between_queued_writes, no_drive, refusals,
-    shallow_queue, thirty_two_tags, write_then_read,
+    shallow_queue, stray_interrupt, thirty_two_tags, write_then_read,
 };
 pub use timeouts::{
     completed_before_recovery, hang, late_but_done, lost_interrupt, second_hang, slow_drive,

@@ -8,6 +8,7 @@ ghost use Rattle.port_worked.specs.Heads.{no_drive, unqueued, shallow, queued};
 ghost use Rattle.port_worked.specs.Refusals.{refusals_rows};
 ghost use Rattle.port_worked.specs.Rows.{calls, journal};
 ghost use Rattle.port_worked.specs.ShallowQueue.{shallow_queue_rows};
+ghost use Rattle.port_worked.specs.StrayInterrupt.{stray_interrupt_rows};
 ghost use Rattle.port_worked.specs.ThirtyTwoTags.{thirty_two_tags_rows};
 ghost use Rattle.port_worked.specs.WriteThenRead.{write_then_read_rows};
 
@@ -54,4 +55,10 @@ pub fn every_operation()
 /// Thirty-two tags: a queue of 32 takes 32 commands, each under the lowest free tag, and no more.
 pub fn thirty_two_tags()
     ensures { run queued (calls thirty_two_tags_rows) ≡ journal queued_found thirty_two_tags_rows }
+{}
+
+/// Stray interrupt: one without cause answers nothing, and lowers the line that it raised; a command that is done meanwhile
+/// is answered once.
+pub fn stray_interrupt()
+    ensures { run queued (calls stray_interrupt_rows) ≡ journal queued_found stray_interrupt_rows }
 {}
