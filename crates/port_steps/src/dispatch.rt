@@ -1,0 +1,36 @@
+ghost use Rattle.std.specs.Prelude.{◌≡◌, ◌<◌, ◌≤◌};
+ghost use Rattle.ata_trace.specs.Entries.{grown};
+ghost use Rattle.port_ledger.specs.LedgerView.{past};
+ghost use Rattle.port_rules.specs.Built.{IsBuilt};
+ghost use Rattle.port_rules.specs.Legal.{entry_after};
+
+use crate::interrupt::irq;
+use crate::kick::kick;
+use crate::line::stray;
+use crate::submit::submit;
+use crate::work::work;
+use ata_trace::{Act, Step, Who};
+use port_ledger::Ledger;
+
+/// Makes the entry of a step.
+pub fn act(ledger: &mut Ledger, who: Who, seq: u64, step: &Step)
+    requires begins { 0 < ledger.old.begins }
+    requires room { 128 ≤ ledger.old.room }
+    requires built { IsBuilt ledger.old.head step.now }
+    ensures past { past ledger.new ≡ grown (past ledger.old) (entry_after ledger.old.head (past ledger.old) who seq step.now) }
+    ensures head { ledger.new.head ≡ ledger.old.head }
+{
+    if let Step::Irq = step {
+        irq(ledger, who, seq);
+        return;
+    }
+    ledger.begin(who, seq, step);
+    match step {
+        Step::Submit { id, place, op, .. } => submit(ledger, *id, *place, &op.get()),
+        Step::Kick { place } => kick(ledger, *place),
+        Step::Work { place, pick } => work(ledger, *place, *pick),
+        Step::Stray { .. } => stray(ledger),
+        Step::Boot => ledger.note(Act::Nothing),
+        _ => unreachable!(),
+    }
+}
