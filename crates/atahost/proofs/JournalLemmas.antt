@@ -1,91 +1,82 @@
--- Journals follow from what the heads say and the steps.
-use Rattle.std.proofs.Common.{◌≡◌, ℕ, ◌+◌, List, [], ◌∷◌, Option, Some, None, Bool, true, false, map, option_map, cond, not, ◌==◌, refl, sym, ap, ◌∙◌}
-use Rattle.std.specs.List.{find}
-use Rattle.ata_script.specs.Heads.{DriveSaid, PortSaid, drive_said, port_said}
+-- Heads that say the same are the same, so journals follow from what is said.
+use Rattle.std.proofs.Common.{◌≡◌, ◌≤◌, ℕ, Bool, true, not, ◌||◌, ◌==◌, List, [], ◌∷◌, codes, length, map, refl, sym, ap, ◌∙◌}
+use Rattle.std.proofs.Math.Path.{PathP, to_path_p}
+use Rattle.std.proofs.Props.{props}
+use Rattle.ata_base.specs.Limits.{most_drive_sectors}
+use Rattle.ata_script.specs.DrivePlaces.{drive_places}
 use Rattle.ata_script.specs.Draft.{DraftView}
+use Rattle.ata_script.specs.Heads.{PortSaid, drive_said, port_said}
+use Rattle.ata_script.specs.Places.{are_within, are_apart}
 use Rattle.ata_script.specs.Scripts.{IsScript, script_said}
 use Rattle.ata_script.specs.declared.drive_head.DriveHead.{DriveHead}
 use Rattle.ata_script.specs.declared.port_head.PortHead.{PortHead}
 use Rattle.ata_script.specs.declared.script.Script.{Script}
-use Rattle.ata_trace.specs.Entries.{EntryView, grown}
-use Rattle.ata_trace.specs.declared.act.Act.{Act}
-use Rattle.ata_trace.specs.declared.act.Act.TheVariants.{Identified, Attached, Mode, Nothing}
-use Rattle.ata_trace.specs.declared.step.Step.{Step}
-use Rattle.ata_trace.specs.declared.step.Step.TheVariants.{Boot}
-use Rattle.ata_trace.specs.declared.who.Who.TheVariants.{Boot as ByBoot}
+use Rattle.ata_trace.specs.Entries.{EntryView}
+use Rattle.ata_trace.specs.Names.{IsDriveName}
 use Rattle.atahost.specs.Journals.{AreJournalsOf}
-use Rattle.first_rules.specs.Boot.{drive_at, stands_at, found_acts, size_of_drive}
-use Rattle.first_rules.specs.Run.{Asked, run, run_from}
-use Rattle.port_core.specs.Weave.{asked_at, journals_from}
+use Rattle.port_core.specs.Weave.{journals_of}
 
--- what is said of the drive at a place
-abbrev pub said_at : ℕ → List DriveSaid → Option DriveSaid
-said_at place [] = None
-said_at place (drive ∷ rest) = cond (stands_at place drive.place) (Some drive) (said_at place rest)
+-- two proofs of a fact are joined along its way, where it has one proof at the end
+joined : (B : 𝕀 → Type 0) → IsProp (B 1) → (a : B 0) (b : B 1) → PathP B a b
+joined B once a b = to_path_p B (once _ b)
 
-found_said : (place : ℕ) (drives : List DriveHead) → option_map drive_said (drive_at place drives) ≡ said_at place (map drive_said drives)
-found_said place [] = refl
-found_said place (drive ∷ rest) = chosen (stands_at place drive.place) (found_said place rest) where
-  chosen : (b : Bool) → option_map drive_said (drive_at place rest) ≡ said_at place (map drive_said rest)
-      → option_map drive_said (cond b (Some drive) (drive_at place rest)) ≡ cond b (Some (drive_said drive)) (said_at place (map drive_said rest))
-  chosen true later = refl
-  chosen false later = later
+-- two drives of which the same is said are one: each of their promises has one proof
+same_drive : (a b : DriveHead) → drive_said a ≡ drive_said b → a ≡ b
+same_drive a b p = λ i. record {
+  place = (p i).place;
+  identity = (p i).identity;
+  ready = record { n = (p i).ready };
+  model = joined (λ i. ∥ IsDriveName (p i).identity.model ∥₁) (hlevel props) a.model b.model i;
+  serial = joined (λ i. ∥ IsDriveName (p i).identity.serial ∥₁) (hlevel props) a.serial b.serial i;
+  firmware = joined (λ i. (p i).identity.firmware ≡ codes "ATAHOST1") (hlevel props) a.firmware b.firmware i;
+  some_sectors = joined (λ i. 1 ≤ (p i).identity.sectors) (hlevel props) a.some_sectors b.some_sectors i;
+  most_sectors = joined (λ i. (p i).identity.sectors ≤ most_drive_sectors) (hlevel props) a.most_sectors b.most_sectors i;
+  depth = joined (λ i. (p i).identity.depth ≤ 32) (hlevel props) a.depth b.depth i;
+  first_generation = joined (λ i. 1 ≤ (p i).identity.gen_no) (hlevel props) a.first_generation b.first_generation i;
+  last_generation = joined (λ i. (p i).identity.gen_no ≤ 3) (hlevel props) a.last_generation b.last_generation i;
+  udma = joined (λ i. (p i).identity.udma ≡ 127) (hlevel props) a.udma b.udma i;
+  wait = joined (λ i. (p i).ready ≤ 60000) (hlevel props) a.wait b.wait i;
+}
 
--- the acts of the boot, and the sectors, by what is said of a drive
-abbrev pub acts_said : Option DriveSaid → List Act
-acts_said None = Nothing ∷ []
-acts_said (Some d) =
-    Identified 0 d.identity.model d.identity.serial d.identity.sectors d.identity.depth
-    ∷ Attached 0
-    ∷ Mode 0 6 (not (d.identity.depth == 0)) true
-    ∷ []
+-- lists of which the same is said are one, where that holds of each
+same_list :
+    {A B : Type 0} (said : A → B) → ((a b : A) → said a ≡ said b → a ≡ b) → (xs ys : List A) → map said xs ≡ map said ys
+    → xs ≡ ys
+same_list said one [] [] p = refl
+same_list said one [] (y ∷ ys) p = absurd (cc p)
+same_list said one (x ∷ xs) [] p = absurd (cc p)
+same_list said one (x ∷ xs) (y ∷ ys) p =
+    let first : said x ≡ said y = cc p in
+    let rest : map said xs ≡ map said ys = cc p in
+    λ i. one x y first i ∷ same_list said one xs ys rest i
 
-abbrev pub size_said : Option DriveSaid → ℕ
-size_said None = 0
-size_said (Some d) = d.identity.sectors
-
-acts_found : (drive : Option DriveHead) → found_acts 0 drive ≡ acts_said (option_map drive_said drive)
-acts_found None = refl
-acts_found (Some drive) = refl
-
-size_found : (drive : Option DriveHead) → size_of_drive drive ≡ size_said (option_map drive_said drive)
-size_found None = refl
-size_found (Some drive) = refl
-
--- the journal of a port where this is said of the drive that it finds
-abbrev pub run_found : List Act → ℕ → List Asked → List EntryView
-run_found acts size asked =
-    let boot : EntryView = record { at = 0; who = ByBoot; seq = 0; step = Boot; acts = acts } in
-    boot ∷ run_from size (grown [] boot) asked
-
-abbrev pub run_said : PortSaid → List Asked → List EntryView
-run_said port asked = run_found (acts_said (said_at 0 port.drives)) (size_said (said_at 0 port.drives)) asked
-
--- the journal of a port goes by what its head says
-pub run_by_said : (head : PortHead) (asked : List Asked) → run head asked ≡ run_said (port_said head) asked
-run_by_said head asked =
-    let drive = drive_at 0 head.drives in
-    let said = found_said 0 head.drives in
-    ap (λ acts. run_found acts (size_of_drive drive) asked) (acts_found drive ∙ ap acts_said said)
-    ∙ ap (λ size. run_found (acts_said (said_at 0 (map drive_said head.drives))) size asked) (size_found drive ∙ ap size_said said)
-
--- the journals of ports go by what their heads say
-abbrev pub journals_said : ℕ → List PortSaid → List (ℕ × ℕ × Step) → List (List EntryView)
-journals_said number [] steps = []
-journals_said number (port ∷ rest) steps = run_said port (asked_at number steps) ∷ journals_said (number + 1) rest steps
-
-journals_by_said : (number : ℕ) (heads : List PortHead) (steps : List (ℕ × ℕ × Step)) → journals_from number heads steps ≡ journals_said number (map port_said heads) steps
-journals_by_said number [] steps = refl
-journals_by_said number (head ∷ rest) steps =
-    ap (λ entries. entries ∷ journals_from (number + 1) rest steps) (run_by_said head (asked_at number steps))
-    ∙ ap (λ journals. run_said (port_said head) (asked_at number steps) ∷ journals) (journals_by_said (number + 1) rest steps)
+-- two ports of which the same is said are one
+same_port : (a b : PortHead) → port_said a ≡ port_said b → a ≡ b
+same_port a b p =
+    let q : a.drives ≡ b.drives =
+    same_list drive_said same_drive a.drives b.drives (ap (λ (s : PortSaid). s.drives) p) in
+    λ i. record {
+      places = (p i).places;
+      pmp = (p i).pmp;
+      fbs = (p i).fbs;
+      drain = (p i).drain;
+      drives = q i;
+      some_places = joined (λ i. 1 ≤ (p i).places) (hlevel props) a.some_places b.some_places i;
+      most_places = joined (λ i. (p i).places ≤ 15) (hlevel props) a.most_places b.most_places i;
+      direct = joined (λ i. ((p i).pmp || (p i).places == 1) ≡ true) (hlevel props) a.direct b.direct i;
+      switched = joined (λ i. ((p i).pmp || not (p i).fbs) ≡ true) (hlevel props) a.switched b.switched i;
+      few_drives = joined (λ i. length (q i) ≤ 32) (hlevel props) a.few_drives b.few_drives i;
+      standing = joined (λ i. are_within (p i).places (drive_places (q i)) ≡ true) (hlevel props) a.standing b.standing i;
+      apart = joined (λ i. are_apart (drive_places (q i)) ≡ true) (hlevel props) a.apart b.apart i;
+    }
 
 -- bytes that are one script have one list of journals
-pub one_list : ((bytes : List ℕ) → (a b : Script) → IsScript bytes a → IsScript bytes b → script_said a ≡ script_said b)
-    → (bytes : List ℕ) → (these those : List (List EntryView)) → AreJournalsOf bytes these → AreJournalsOf bytes those → these ≡ those
+pub one_list :
+    ((bytes : List ℕ) → (a b : Script) → IsScript bytes a → IsScript bytes b → script_said a ≡ script_said b)
+    → (bytes : List ℕ) → (these those : List (List EntryView)) → AreJournalsOf bytes these → AreJournalsOf bytes those
+    → these ≡ those
 one_list once bytes these those p q =
-    p.made
-    ∙ journals_by_said 0 p.script.head p.script.steps
-    ∙ ap (λ (d : DraftView). journals_said 0 d.ports d.steps) (once bytes p.script q.script p.read q.read)
-    ∙ sym (journals_by_said 0 q.script.head q.script.steps)
-    ∙ sym q.made
+    let said : script_said p.script ≡ script_said q.script = once bytes p.script q.script p.read q.read in
+    let heads : p.script.head ≡ q.script.head =
+    same_list port_said same_port p.script.head q.script.head (ap (λ (d : DraftView). d.ports) said) in
+    p.made ∙ (λ i. journals_of (heads i) (said i).steps) ∙ sym q.made

@@ -1,3 +1,4 @@
 mod JournalLemmas
+pub mod BuiltLemmas
 pub mod HeadlineLemmas
 pub mod RefusalLemmas

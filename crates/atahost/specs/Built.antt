@@ -6,29 +6,21 @@ use Rattle.ata_script.specs.Heads.{PortSaid}
 use Rattle.ata_script.specs.Scripts.{script_said}
 use Rattle.ata_script.specs.declared.script.Script.{Script}
 use Rattle.ata_trace.specs.declared.step.Step.{Step}
-use Rattle.ata_trace.specs.declared.step.Step.TheVariants.{Submit, Kick, Work, Irq}
-
--- whether a port has this step
-abbrev pub has_step : Step → Bool
-has_step (Submit id place op allow wait) = true
-has_step (Kick place) = true
-has_step (Work place pick) = true
-has_step Irq = true
-has_step _ = false
+use Rattle.port_rules.specs.Built.{is_step_built}
 
 -- whether each port is direct
 abbrev pub are_direct : List PortSaid → Bool
 are_direct [] = true
 are_direct (port ∷ rest) = not port.pmp && are_direct rest
 
--- whether each step is one that a port has
-abbrev pub have_steps : List (ℕ × ℕ × Step) → Bool
-have_steps [] = true
-have_steps (taken ∷ rest) = has_step taken.2 && have_steps rest
+-- whether each step is built
+abbrev pub are_steps_built : List (ℕ × ℕ × Step) → Bool
+are_steps_built [] = true
+are_steps_built (taken ∷ rest) = is_step_built taken.2 && are_steps_built rest
 
--- whether a script that says this is built: version 1, direct ports, and steps that a port has
+-- whether a script that says this is built: version 1, direct ports, and built steps
 abbrev pub is_built : DraftView → Bool
-is_built said = (said.version == 1) && (are_direct said.ports && have_steps said.steps)
+is_built said = (said.version == 1) && (are_direct said.ports && are_steps_built said.steps)
 
 -- the program plays this script
 abbrev pub IsBuilt : Script → Type 0

@@ -1,17 +1,18 @@
 ghost use Rattle.std.specs.Prelude.{◌≡◌, map};
 ghost use Rattle.ata_script.specs.Heads.{port_said};
 ghost use Rattle.ata_script.specs.Scripts.{script_said};
-ghost use Rattle.atahost.specs.Built.{are_direct, has_step, have_steps, is_built};
+ghost use Rattle.atahost.specs.Built.{are_direct, are_steps_built, is_built};
+ghost use Rattle.port_rules.specs.Built.{is_step_built};
 
 use ata_base::{ActorNo, PortNo};
 use ata_script::{PortHead, Script};
 use ata_trace::Step;
 
-/// Whether the program plays a script: version 1, direct ports, and steps that a port has.
+/// Whether the program plays a script: version 1, direct ports, and built steps.
 pub fn is_built(script: &Script) -> bool
     ensures { result ≡ is_built (script_said script.now) }
 {
-    script.version == 1 && are_direct(script.head.items()) && have_steps(script.steps.items())
+    script.version == 1 && are_direct(script.head.items()) && are_steps_built(script.steps.items())
 }
 
 // Whether each port is direct.
@@ -26,24 +27,29 @@ fn are_direct(ports: &[PortHead]) -> bool
     true
 }
 
-// Whether each step is one that a port has.
-fn have_steps(steps: &[(ActorNo, PortNo, Step)]) -> bool
-    ensures { result ≡ have_steps steps.now }
+// Whether each step is built.
+fn are_steps_built(steps: &[(ActorNo, PortNo, Step)]) -> bool
+    ensures { result ≡ are_steps_built steps.now }
 {
     for taken in steps {
-        if !has_step(&taken.2) {
+        if !is_step_built(&taken.2) {
             return false;
         }
     }
     true
 }
 
-// Whether a port has this step.
-fn has_step(step: &Step) -> bool
-    ensures { result ≡ has_step step.now }
+/// Whether a step is built. No script has the step `boot`.
+pub fn is_step_built(step: &Step) -> bool
+    ensures { result ≡ is_step_built step.now }
 {
     matches!(
         step,
-        Step::Submit { .. } | Step::Kick { .. } | Step::Work { .. } | Step::Irq
+        Step::Submit { .. }
+            | Step::Kick { .. }
+            | Step::Work { .. }
+            | Step::Irq
+            | Step::Stray { .. }
+            | Step::Boot
     )
 }

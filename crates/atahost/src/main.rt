@@ -53,6 +53,8 @@ fn run(rt: &HostRuntime, words: &[String]) -> Status {
 }
 
 #[cfg(test)]
+mod host_tests;
+#[cfg(test)]
 mod steps_tests;
 #[cfg(test)]
 mod tests;

@@ -19,14 +19,14 @@ use std::alloc::Global;
 const MOST_BYTES: usize = 4_194_304;
 
 /// Replays the script that `source` gives, and writes the journals of its ports to `sink`, in their order.
-/// The rounds
-/// of settling have no effect yet. `Done` and `Left` come where all was read and printed, `Left`
+/// The rounds of settling have no effect yet. `Done` and `Left` come where all was read and printed, `Left`
 /// exactly where commands are live after the last step; `BadScript` where the bytes, read to their end,
 /// aren't played: with the line and rule of their first fault, or with line and rule 0 where they are a
 /// script that isn't built; `TooLong` exactly where more than
 /// 4,194,304 bytes came before a read failed or memory was wanted; `ReadFault` and `WriteFault` where a
 /// read or a write failed, and no failed one is passed over. Want of memory comes before the first line
 /// is written, or not at all.
+#[tactic(auto, using(crate::proofs::BuiltLemmas::script_built))]
 pub fn replay_all<S: Source, K: Sink>(
     alloc: Global,
     source: &mut S,

@@ -1,5 +1,6 @@
 ghost use Rattle.std.specs.Prelude.{◌≤◌};
 
+use crate::built::is_step_built;
 use ata_base::{ActorNo, Allowance, CmdId, Op, Pick, Place, PortNo, Wait};
 use ata_script::read;
 use ata_trace::{ScriptOp, Step, Who, act_line, head_line};
@@ -31,6 +32,9 @@ fn entry_of(
     step: &Step,
 ) -> Result<String, Fail> {
     port.reserve()?;
+    if port.head().pmp || !is_step_built(step) {
+        panic!(rt; "the step isn't built");
+    }
     let before = port.journal().len();
     port.step(Who::Actor(ActorNo::at(0)), seq, step);
     let entry = match port.journal().entry(before) {

@@ -1,2 +1,3 @@
+pub mod BuiltSteps
 pub mod FewPorts
 pub mod TakenSteps

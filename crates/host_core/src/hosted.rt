@@ -1,11 +1,14 @@
-ghost use Rattle.std.specs.Prelude.{◌≡◌, ◌≤◌, [], length, IfOk};
-ghost use Rattle.host_core.specs.Hosting.{IsHostOf};
+ghost use Rattle.std.specs.Prelude.{◌≡◌, ◌≤◌, [], length, slice_get, IfOk, IfSome, OnOk};
+ghost use Rattle.ata_trace.specs.declared.who.Who.TheVariants.{Actor};
+ghost use Rattle.host_core.specs.Hosting.{AreBuilt, IsHostOf};
+ghost use Rattle.port_rules.specs.Built.{IsBuilt};
+ghost use Rattle.port_core.specs.Hosts.{at_port, stepped, with_room};
 
-use crate::played::played;
+use crate::turns::Turns;
 use ata_base::{ActorNo, OutOfMemory, PortNo};
 use ata_script::{PortHead, Script};
-use ata_trace::Step;
-use port_core::Host;
+use ata_trace::{Step, Who};
+use port_core::{Host, Port};
 use std::alloc::Global;
 
 /// All ports of a script, started: each journal is the boot entry of its port's head. Where memory is
@@ -14,33 +17,68 @@ use std::alloc::Global;
 pub fn boot(alloc: Global, script: &Script) -> Result<Host, OutOfMemory>
     ensures { IfOk result (λ host. IsHostOf script.now.head [] host) }
 {
-    hosted(alloc, script.head.items(), &[])
+    started(alloc, script.head.items())
 }
 
-/// All ports of a script after its steps: each took those at its number in the order of their lines, for
+/// All ports of a script after its steps, which are built: each took those at its number in the order of their lines, for
 /// their actors, of whom each has its steps at that port numbered from 0. Ports aren't settled. Where
 /// memory is wanted there is no host.
 #[tactic(auto, using(crate::proofs::FewPorts::few_ports))]
 pub fn replay(alloc: Global, script: &Script) -> Result<Host, OutOfMemory>
+    requires { AreBuilt script.now.head script.now.steps }
     ensures { IfOk result (λ host. IsHostOf script.now.head script.now.steps host) }
 {
     hosted(alloc, script.head.items(), script.steps.items())
 }
 
-// Ports with these heads, after these steps. No port sees another, so each takes its steps on its own.
+// Ports with these heads, each booted.
 #[tactic(auto, using(crate::proofs::TakenSteps::host_more, crate::proofs::TakenSteps::host_count))]
+fn started(alloc: Global, heads: &[PortHead]) -> Result<Host, OutOfMemory>
+    requires { length heads.now ≤ 8 }
+    ensures { IfOk result (λ host. IsHostOf heads.now [] host) }
+{
+    let mut host = Host::new(alloc);
+    for number in 0..heads.len() {
+        let port = Port::start(alloc, PortNo::at(number as u8), &heads[number])?;
+        host.push(port)?;
+    }
+    Ok(host)
+}
+
+// Ports with these heads, after these steps. Each step goes to the port of its number, and is passed over where
+// there is none.
+#[tactic(auto, using(crate::proofs::TakenSteps::replayed_none, crate::proofs::TakenSteps::replayed_more, crate::proofs::TakenSteps::replayed_all, crate::proofs::TakenSteps::turn_small))]
 fn hosted(
     alloc: Global,
     heads: &[PortHead],
     steps: &[(ActorNo, PortNo, Step)],
 ) -> Result<Host, OutOfMemory>
-    requires { length heads.now ≤ 8 }
+    requires few { length heads.now ≤ 8 }
+    requires built { AreBuilt heads.now steps.now }
     ensures { IfOk result (λ host. IsHostOf heads.now steps.now host) }
 {
-    let mut host = Host::new(alloc);
-    for number in 0..heads.len() {
-        let port = played(alloc, PortNo::at(number as u8), &heads[number], steps)?;
-        host.push(port)?;
+    let mut host = started(alloc, heads)?;
+    let mut turns = Turns::new();
+    for taken in steps {
+        let seq = turns.next(taken.1, taken.0);
+        take(&mut host, taken.1, taken.0, seq, &taken.2)?;
     }
     Ok(host)
+}
+
+// The port of this number takes the `seq`-th step of an actor.
+#[tactic(auto, using(crate::proofs::TakenSteps::room_made, crate::proofs::BuiltSteps::built_with_room))]
+fn take(
+    host: &mut Host,
+    number: PortNo,
+    actor: ActorNo,
+    seq: u64,
+    step: &Step,
+) -> Result<(), OutOfMemory>
+    requires { IfSome (slice_get host.old number) (λ port. IsBuilt port.head step.now) }
+    ensures { OnOk result (host.new ≡ at_port number (stepped (Actor actor) seq step.now) (at_port number with_room host.old)) }
+{
+    host.reserve(number)?;
+    host.step(number, Who::Actor(actor), seq, step);
+    Ok(())
 }

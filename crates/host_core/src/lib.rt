@@ -2,12 +2,8 @@
 #![tactic(auto)]
 
 mod hosted;
-mod played;
 mod turns;
 mod worked;
 
 pub use hosted::{boot, replay};
 pub use worked::a_worked_row;
-
-#[cfg(test)]
-mod tests;

@@ -1,21 +1,22 @@
 -- What one step more makes of the steps at a port and of their run, and the laws of weaves.
-use Rattle.std.proofs.Common.{◌≡◌, ◌↔◌, ℕ, ◌+◌, ◌<◌, ◌≤◌, ◌==◌, Bool, true, false, List, [], ◌∷◌, ◌++◌, length, refl, sym, ap, subst, ◌∙◌, append_assoc, arith}
+use Rattle.std.proofs.Common.{◌≡◌, ℕ, ◌+◌, ◌==◌, Bool, true, false, List, [], ◌∷◌, ◌++◌, refl, sym, ap, ◌∙◌, append_assoc, arith}
 use Rattle.std.specs.Prelude.{if◌then◌else◌}
 use Rattle.std.proofs.lemmas.Bool.Decides.{nat_tests}
 use Rattle.std.proofs.lemmas.List.{append-nil}
+use Rattle.std.proofs.lemmas.List.Elements.{All-nil, All-cons, All-head, All-tail}
 use Rattle.ata_script.specs.declared.port_head.PortHead.{PortHead}
 use Rattle.ata_trace.specs.Entries.{EntryView, grown, past_from, past_of}
 use Rattle.ata_trace.specs.Event.{Event}
 use Rattle.ata_trace.specs.declared.step.Step.{Step}
 use Rattle.ata_trace.specs.declared.who.Who.TheVariants.{Actor}
-use Rattle.first_rules.specs.Boot.{boot_entry, size_of}
-use Rattle.first_rules.specs.Legal.{entry_after, AreLegal, IsLegal}
-use Rattle.first_rules.specs.Run.{Asked, numbered, run, run_from}
+use Rattle.port_rules.specs.Boot.{boot_entry}
+use Rattle.port_rules.specs.Legal.{entry_after, AreLegal, HasLegalActs, IsLegal}
+use Rattle.port_rules.specs.Run.{StepCall, run, run_from}
 use Rattle.port_core.proofs.Growing.{runs_are_legal}
-use Rattle.port_core.specs.Weave.{IsInLineOrder, asked_after_boot, asked_at, asked_by, asked_in, count_of, in_turn, steps_at, steps_of}
+use Rattle.port_core.specs.Weave.{AreLegalFor, AreScriptCalls, AreScriptSteps, IsInLineOrder, IsOfScript, IsScriptCall, asked_after_boot, asked_at, asked_by, asked_in, count_of, in_turn, journals_from, numbered, steps_at, steps_of}
 
 -- a step behind others, numbered
-abbrev pub asked_next : List (ℕ × Step) → ℕ × Step → Asked
+abbrev pub asked_next : List (ℕ × Step) → ℕ × Step → StepCall
 asked_next before taken = record { who = Actor taken.0; seq = count_of taken.0 before; step = taken.1 }
 
 pub steps_at_push : (port : ℕ) (steps : List (ℕ × ℕ × Step)) (taken : ℕ × ℕ × Step)
@@ -37,49 +38,83 @@ in_turn_push before (first ∷ rest) next =
     ∙ ap (λ list. in_turn (before ++ first ∷ []) rest ++ asked_next list next ∷ []) (append_assoc before (first ∷ []) rest))
 
 -- one step more makes one entry more
-run_from_push : (size : ℕ) (past : List Event) (asked : List Asked) (next : Asked)
-    → run_from size past (asked ++ next ∷ [])
-    ≡ run_from size past asked ++ entry_after size (past_from past (run_from size past asked)) next.who next.seq next.step ∷ []
-run_from_push size past [] next = refl
-run_from_push size past (first ∷ rest) next =
-    let entry = entry_after size past first.who first.seq first.step in
-    ap (λ entries. entry ∷ entries) (run_from_push size (grown past entry) rest next)
+run_from_push : (head : PortHead) (past : List Event) (asked : List StepCall) (next : StepCall)
+    → run_from head past (asked ++ next ∷ [])
+    ≡ run_from head past asked ++ entry_after head (past_from past (run_from head past asked)) next.who next.seq next.step ∷ []
+run_from_push head past [] next = refl
+run_from_push head past (first ∷ rest) next =
+    let entry = entry_after head past first.who first.seq first.step in
+    ap (λ entries. entry ∷ entries) (run_from_push head (grown past entry) rest next)
 
-pub run_push : (head : PortHead) (asked : List Asked) (next : Asked)
-    → run head (asked ++ next ∷ []) ≡ run head asked ++ entry_after (size_of head) (past_of (run head asked)) next.who next.seq next.step ∷ []
-run_push head asked next = ap (λ entries. boot_entry head ∷ entries) (run_from_push (size_of head) (grown [] (boot_entry head)) asked next)
+pub run_push : (head : PortHead) (asked : List StepCall) (next : StepCall)
+    → run head (asked ++ next ∷ []) ≡ run head asked ++ entry_after head (past_of (run head asked)) next.who next.seq next.step ∷ []
+run_push head asked next = ap (λ entries. boot_entry head ∷ entries) (run_from_push head (grown [] (boot_entry head)) asked next)
 
 -- legal entries are the run of what they were asked for
-legal_run : (size : ℕ) (past : List Event) (entries : List EntryView) → AreLegal size past entries → entries ≡ run_from size past (asked_in entries)
-legal_run size past [] legal = refl
-legal_run size past (entry ∷ rest) legal =
-    let next = entry_after size past entry.who entry.seq entry.step in
+legal_run : (head : PortHead) (past : List Event) (entries : List EntryView) → AreLegal head past entries → entries ≡ run_from head past (asked_in entries)
+legal_run head past [] legal = refl
+legal_run head past (entry ∷ rest) legal =
+    let next = entry_after head past entry.who entry.seq entry.step in
     ap (λ e. e ∷ rest) legal.0
-    ∙ ap (λ entries. next ∷ entries) (legal_run size (grown past entry) rest legal.1)
-    ∙ ap (λ e. next ∷ run_from size (grown past e) (asked_in rest)) legal.0
+    ∙ ap (λ entries. next ∷ entries) (legal_run head (grown past entry) rest legal.1)
+    ∙ ap (λ e. next ∷ run_from head (grown past e) (asked_in rest)) legal.0
 
-pub journal_run : (head : PortHead) (entries : List EntryView) → IsLegal head entries → entries ≡ run head (asked_after_boot entries)
+journal_run : (head : PortHead) (entries : List EntryView) → HasLegalActs head entries → entries ≡ run head (asked_after_boot entries)
 journal_run head [] legal = absurd legal
 journal_run head (first ∷ rest) legal =
     ap (λ e. e ∷ rest) legal.0
-    ∙ ap (λ entries. boot_entry head ∷ entries) (legal_run (size_of head) (grown [] first) rest legal.1)
-    ∙ ap (λ e. boot_entry head ∷ run_from (size_of head) (grown [] e) (asked_in rest)) legal.0
+    ∙ ap (λ entries. boot_entry head ∷ entries) (legal_run head (grown [] first) rest legal.1)
+    ∙ ap (λ e. boot_entry head ∷ run_from head (grown [] e) (asked_in rest)) legal.0
 
-asked_in_run : (size : ℕ) (past : List Event) (asked : List Asked) → asked_in (run_from size past asked) ≡ asked
-asked_in_run size past [] = refl
-asked_in_run size past (first ∷ rest) = ap (λ asked. first ∷ asked) (asked_in_run size (grown past (entry_after size past first.who first.seq first.step)) rest)
+asked_in_run : (head : PortHead) (past : List Event) (asked : List StepCall) → asked_in (run_from head past asked) ≡ asked
+asked_in_run head past [] = refl
+asked_in_run head past (first ∷ rest) = ap (λ asked. first ∷ asked) (asked_in_run head (grown past (entry_after head past first.who first.seq first.step)) rest)
 
-pub in_line_order : (head : PortHead) (number : ℕ) (steps : List (ℕ × ℕ × Step)) (entries : List EntryView)
-    → IsInLineOrder head number steps entries ↔ (entries ≡ run head (asked_at number steps))
-in_line_order head number steps entries = (there, back) where
-  there : IsInLineOrder head number steps entries → entries ≡ run head (asked_at number steps)
-  there p = journal_run head entries p.legal ∙ ap (run head) p.asked
+-- a journal in line order is the run
+pub only_the_run : (head : PortHead) (number : ℕ) (steps : List (ℕ × ℕ × Step)) (entries : List EntryView)
+    → IsInLineOrder head number steps entries → entries ≡ run head (asked_at number steps)
+only_the_run head number steps entries p = journal_run head entries p.legal.acts ∙ ap (run head) p.asked
 
-  back : entries ≡ run head (asked_at number steps) → IsInLineOrder head number steps entries
-  back e = subst (IsInLineOrder head number steps) (sym e) (record {
-    legal = runs_are_legal head (asked_at number steps);
-    asked = asked_in_run (size_of head) (grown [] (boot_entry head)) (asked_at number steps);
-  })
+-- steps of a script that follow others, numbered, are calls of a script
+in_turn_in_range :
+    (port : ℕ) (before : List (ℕ × Step)) (steps : List (ℕ × ℕ × Step)) → AreScriptSteps steps
+    → AreScriptCalls (in_turn before (steps_at port steps))
+in_turn_in_range port before [] each = All-nil IsScriptCall
+in_turn_in_range port before (taken ∷ rest) each =
+    chosen (taken.1 == port) (λ before. in_turn_in_range port before rest (All-tail IsOfScript taken rest each)) where
+      here : ℕ × Step
+      here = (taken.0, taken.2)
+
+      chosen :
+          (b : Bool) → ((before : List (ℕ × Step)) → AreScriptCalls (in_turn before (steps_at port rest)))
+          → AreScriptCalls (in_turn before (if b then here ∷ steps_at port rest else steps_at port rest))
+      chosen true later =
+          All-cons IsScriptCall (asked_next before here) (in_turn (before ++ here ∷ []) (steps_at port rest))
+          (All-head IsOfScript taken rest each) (later (before ++ here ∷ []))
+      chosen false later = later before
+
+-- the run of the steps at a port is legal
+pub script_runs_are_legal :
+    (head : PortHead) (number : ℕ) (steps : List (ℕ × ℕ × Step)) → AreScriptSteps steps
+    → IsLegal head (run head (asked_at number steps))
+script_runs_are_legal head number steps each =
+    runs_are_legal head (asked_at number steps) (in_turn_in_range number [] steps each)
+
+-- and in line order
+pub runs_in_line_order : (head : PortHead) (number : ℕ) (steps : List (ℕ × ℕ × Step)) → AreScriptSteps steps
+    → IsInLineOrder head number steps (run head (asked_at number steps))
+runs_in_line_order head number steps each = record {
+  legal = script_runs_are_legal head number steps each;
+  asked = asked_in_run head (grown [] (boot_entry head)) (asked_at number steps);
+}
+
+-- so is each journal of the ports
+pub journals_are_legal :
+    (number : ℕ) (heads : List PortHead) (steps : List (ℕ × ℕ × Step)) → AreScriptSteps steps
+    → AreLegalFor heads (journals_from number heads steps)
+journals_are_legal number [] steps each = tt
+journals_are_legal number (head ∷ rest) steps each =
+    (script_runs_are_legal head number steps each, journals_are_legal (number + 1) rest steps each)
 
 pub count_push : (actor : ℕ) (steps : List (ℕ × Step)) (taken : ℕ × Step)
     → count_of actor (steps ++ taken ∷ []) ≡ (if taken.0 == actor then count_of actor steps + 1 else count_of actor steps)
@@ -101,7 +136,7 @@ in_turn_from : (actor : ℕ) (before steps : List (ℕ × Step))
 in_turn_from actor before [] = refl
 in_turn_from actor before (taken ∷ rest) =
     chosen (taken.0 == actor) refl (count_push actor before taken) (in_turn_from actor (before ++ taken ∷ []) rest) where
-      later : List Asked
+      later : List StepCall
       later = asked_by actor (in_turn (before ++ taken ∷ []) rest)
 
       chosen : (b : Bool) → (taken.0 == actor) ≡ b → count_of actor (before ++ taken ∷ []) ≡ (if b then count_of actor before + 1 else count_of actor before)

@@ -1,9 +1,12 @@
-use Rattle.std.specs.Prelude.{◌≡◌, ℕ, ◌+◌, ◌≤◌, List, [], ◌∷◌, length, map}
+use Rattle.std.specs.Prelude.{◌≡◌, ℕ, zero, suc, ◌+◌, ◌≤◌, List, [], ◌∷◌, ◌++◌, length, map}
 use Rattle.std.specs.List.{sum_by}
 use Rattle.ata_script.specs.declared.port_head.PortHead.{PortHead}
 use Rattle.ata_trace.specs.Entries.{EntryView, past_of}
-use Rattle.first_past.specs.Accepted.{live}
+use Rattle.ata_trace.specs.declared.step.Step.{Step}
+use Rattle.ata_trace.specs.declared.who.Who.{Who}
 use Rattle.port_core.specs.PortView.{PortView}
+use Rattle.port_past.specs.Live.{live}
+use Rattle.port_rules.specs.Legal.{entry_after}
 
 -- the ports are numbered one after the other, from this number on
 abbrev pub AreNumbered : ℕ → List PortView → Type 0
@@ -14,6 +17,21 @@ AreNumbered number (port ∷ rest) = (port.number ≡ number) × AreNumbered (nu
 pub record AreOfHost (ports : List PortView) : Type 0 where
   pub numbered : AreNumbered 0 ports
   pub few : length ports ≤ 8
+
+-- a port with room for one step
+abbrev pub with_room : PortView → PortView
+with_room port = record port { spare = 1 }
+
+-- a port after a step, the `seq`-th of `who`
+abbrev pub stepped : Who → ℕ → Step → PortView → PortView
+stepped who seq step port =
+    record port { entries = port.entries ++ entry_after port.head (past_of port.entries) who seq step ∷ []; spare = 0 }
+
+-- one of the ports changes, all others stay; past the last port nothing changes
+abbrev pub at_port : ℕ → (PortView → PortView) → List PortView → List PortView
+at_port number change [] = []
+at_port zero change (port ∷ rest) = change port ∷ rest
+at_port (suc number) change (port ∷ rest) = port ∷ at_port number change rest
 
 -- the heads of ports
 abbrev pub heads_in : List PortView → List PortHead

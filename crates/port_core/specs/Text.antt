@@ -1,8 +1,10 @@
 use Rattle.std.specs.Prelude.{ℕ, ◌+◌, ◌-◌, ◌==◌, List, [], ◌∷◌, ◌++◌, codes, decimal, length, if◌then◌else◌}
 use Rattle.std.specs.List.{flat_map, list_any}
+use Rattle.ata_base.specs.declared.cmd.Cmd.{Cmd}
 use Rattle.ata_trace.specs.Entries.{EntryView, past_of}
 use Rattle.ata_trace.specs.Text.{act_line, head_line, joined}
-use Rattle.first_past.specs.Accepted.{accepted, live}
+use Rattle.port_past.specs.Commands.{commands}
+use Rattle.port_past.specs.Live.{live}
 use Rattle.port_core.specs.PortView.{PortView}
 
 -- the line that a port's text begins with, and its line feed
@@ -18,8 +20,8 @@ abbrev pub live_line : ℕ → List ℕ
 live_line id = joined (codes "live") (decimal id ∷ []) ++ codes "\n"
 
 -- of the accepted commands, those that are live have a line
-abbrev pub live_text : List ℕ → ℕ → List ℕ
-live_text lives id = if list_any (λ c. c == id) lives then live_line id else []
+abbrev pub live_text : List ℕ → Cmd → List ℕ
+live_text lives command = if list_any (λ c. c == command.id) lives then live_line command.id else []
 
 -- the line that a port's text ends with: how many commands were accepted, answered, and are live
 abbrev pub end_line : ℕ → ℕ → ℕ → List ℕ
@@ -29,8 +31,8 @@ end_line number accepted live =
 -- the live commands in the order of acceptance, and the counts
 abbrev pub counts_text : ℕ → List EntryView → List ℕ
 counts_text number entries =
-    flat_map (live_text (live (past_of entries))) (accepted (past_of entries))
-    ++ end_line number (length (accepted (past_of entries))) (length (live (past_of entries)))
+    flat_map (live_text (live (past_of entries))) (commands (past_of entries))
+    ++ end_line number (length (commands (past_of entries))) (length (live (past_of entries)))
 
 -- the entries, the live commands and the counts
 abbrev pub rest_text : ℕ → List EntryView → List ℕ

@@ -1,9 +1,11 @@
 ghost use Rattle.std.specs.Prelude.{◌≡◌, ◌≤◌, ◌++◌, ◌∷◌, [], length, slice_get, IfSome, OnOk, OnErr};
 ghost use Rattle.std.specs.Option.{option_copied};
-ghost use Rattle.port_core.specs.Hosts.{AreNumbered, journals_in, lives_of};
+ghost use Rattle.port_rules.specs.Built.{IsBuilt};
+ghost use Rattle.port_core.specs.Hosts.{AreNumbered, at_port, journals_in, lives_of, stepped, with_room};
 
 use crate::port::Port;
 use ata_base::{OutOfMemory, PortNo};
+use ata_trace::{Step, Who};
 use std::alloc::Global;
 use std::marker::Model;
 
@@ -47,6 +49,35 @@ impl Host {
         prove!(number < 8);
         self.ports.push(port)?;
         Ok(())
+    }
+
+    /// Makes room for one step at the port of this number; where there is none, for nothing. All other ports stay,
+    /// and after a refusal this one too.
+    #[tactic(auto, using(crate::proofs::Hosts::changed_past, crate::proofs::Hosts::port_changed, crate::proofs::Hosts::port_stays))]
+    pub fn reserve(&mut self, number: PortNo) -> Result<(), OutOfMemory>
+        ensures ok { OnOk result (self.new ≡ at_port number with_room self.old) }
+        ensures err { OnErr result (self.new ≡ self.old) }
+    {
+        let place = number.get() as usize;
+        if place < self.ports.len() {
+            self.ports[place].reserve()
+        } else {
+            Ok(())
+        }
+    }
+
+    /// The port of this number takes a step that is built, the `seq`-th of `who`; where there is none, nothing does.
+    /// All other ports stay. It always succeeds, and takes no memory.
+    #[tactic(auto, using(crate::proofs::Hosts::changed_past, crate::proofs::Hosts::port_stepped))]
+    pub fn step(&mut self, number: PortNo, who: Who, seq: u64, step: &Step)
+        requires spare { IfSome (slice_get self.old number) (λ port. port.spare ≡ 1) }
+        requires built { IfSome (slice_get self.old number) (λ port. IsBuilt port.head step.now) }
+        ensures { self.new ≡ at_port number (stepped who seq step.now) self.old }
+    {
+        let place = number.get() as usize;
+        if place < self.ports.len() {
+            self.ports[place].step(who, seq, step);
+        }
     }
 
     /// The ports in order.

@@ -1,24 +1,35 @@
-ghost use Rattle.std.specs.Prelude.{◌≡◌, ◌↔◌, ℕ, List};
+ghost use Rattle.std.specs.Prelude.{◌≡◌, ℕ, List};
+ghost use Rattle.ata_script.specs.Scripts.{IsScript};
 ghost use Rattle.ata_script.specs.declared.port_head.PortHead.{PortHead};
+ghost use Rattle.ata_script.specs.declared.script.Script.{Script};
 ghost use Rattle.ata_trace.specs.Entries.{EntryView};
 ghost use Rattle.ata_trace.specs.declared.step.Step.{Step};
 ghost use Rattle.ata_trace.specs.declared.who.Who.TheVariants.{Actor};
-ghost use Rattle.first_rules.specs.Legal.{IsLegal};
-ghost use Rattle.first_rules.specs.Run.{Asked, numbered, run};
-ghost use Rattle.port_core.specs.Weave.{IsInLineOrder, asked_at, asked_by, steps_at, steps_of};
+ghost use Rattle.port_rules.specs.Legal.{IsLegal};
+ghost use Rattle.port_rules.specs.Run.{StepCall, run};
+ghost use Rattle.port_core.specs.Weave.{AreLegalFor, AreScriptCalls, AreScriptSteps, IsInLineOrder, asked_at, asked_by, journals_of, numbered, steps_at, steps_of};
 
-/// The law that the journal which steps make is legal, whatever the steps: so each law of the legal
-/// journals holds of it. It does nothing.
-#[tactic(auto, using(crate::proofs::Growing::runs_are_legal))]
+/// The law that the journal which steps make is legal, whatever the steps that a script can have: so each law of
+/// the legal journals holds of it. It does nothing.
 pub fn runs_are_legal()
-    ensures { (head : PortHead) → (asked : List Asked) → IsLegal head (run head asked) }
+    ensures { (head : PortHead) → (asked : List StepCall) → AreScriptCalls asked → IsLegal head (run head asked) }
 {}
 
-/// The law that a script has one journal at a port: the run of its steps there, and no other journal, is
-/// legal and in the order of its lines. It does nothing.
+/// The law that the journals of a script are legal: each of its steps is one that a script can have, and each
+/// journal that they make is legal for its port. It does nothing.
+pub fn script_journals_are_legal()
+    ensures steps { (bytes : List ℕ) → (script : Script) → IsScript bytes script → AreScriptSteps script.steps }
+    ensures journals { (bytes : List ℕ) → (script : Script) → IsScript bytes script
+        → AreLegalFor script.head (journals_of script.head script.steps) }
+{}
+
+/// The law that the steps of a script have one journal at a port: the run of those there is legal and in the
+/// order of its lines, and no other journal is. It does nothing.
 pub fn one_in_line_order()
-    ensures { (head : PortHead) → (number : ℕ) → (steps : List (ℕ × ℕ × Step)) → (entries : List EntryView)
-        → IsInLineOrder head number steps entries ↔ (entries ≡ run head (asked_at number steps)) }
+    ensures runs { (head : PortHead) → (number : ℕ) → (steps : List (ℕ × ℕ × Step))
+        → AreScriptSteps steps → IsInLineOrder head number steps (run head (asked_at number steps)) }
+    ensures alone { (head : PortHead) → (number : ℕ) → (steps : List (ℕ × ℕ × Step)) → (entries : List EntryView)
+        → IsInLineOrder head number steps entries → entries ≡ run head (asked_at number steps) }
 {}
 
 /// The law that what is asked of a port is a weave of the steps of the actors there: of each actor all its

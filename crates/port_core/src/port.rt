@@ -1,20 +1,28 @@
-ghost use Rattle.std.specs.Prelude.{◌≡◌, ℕ, ◌<◌, ◌≤◌, ◌++◌, ◌==◌, ◌∷◌, [], length, IfOk, OnOk, OnErr};
+ghost use Rattle.std.specs.Prelude.{◌≡◌, ℕ, true, false, ◌<◌, ◌≤◌, ◌++◌, ◌==◌, ◌∷◌, [], length, IfOk, OnOk, OnErr};
 ghost use Rattle.std.specs.List.{list_any};
 ghost use Rattle.ata_trace.specs.Entries.{past_of};
-ghost use Rattle.first_laws.specs.Links.{AreLinksUnmixed};
-ghost use Rattle.first_laws.specs.Moments.{AtEach};
-ghost use Rattle.first_laws.specs.Once.{AreOnceOrLive};
-ghost use Rattle.first_laws.specs.Silent.{IsSilentWhileFrozen};
-ghost use Rattle.first_laws.specs.Success.{IsDoneWell};
-ghost use Rattle.first_laws.specs.Tags.{IsTagFree};
-ghost use Rattle.first_past.specs.Accepted.{accepted, live};
-ghost use Rattle.first_rules.specs.Boot.{boot_entry, size_of};
-ghost use Rattle.first_rules.specs.Legal.{IsLegal, entry_after};
+ghost use Rattle.port_facts.specs.Moments.{AtEach};
+ghost use Rattle.port_laws.specs.Ending.{IsEmptyAtEnd};
+ghost use Rattle.port_laws.specs.Judgements.{IsRightJudgement};
+ghost use Rattle.port_laws.specs.Links.{AreLinksUnmixed, IsOneLink};
+ghost use Rattle.port_laws.specs.Once.{AreOnceOrLive};
+ghost use Rattle.port_laws.specs.Silent.{IsSilentWhileFrozen};
+ghost use Rattle.port_laws.specs.Statuses.{IsRightStatus};
+ghost use Rattle.port_laws.specs.Success.{IsDoneWell};
+ghost use Rattle.port_laws.specs.Tags.{IsTagFree};
+ghost use Rattle.port_past.specs.Commands.{commands};
+ghost use Rattle.port_past.specs.Live.{live};
+ghost use Rattle.port_stands.specs.Silence.{IsSilentAfterAnswer};
+ghost use Rattle.port_rules.specs.Boot.{boot_entry};
+ghost use Rattle.port_rules.specs.Built.{IsBuilt};
+ghost use Rattle.port_rules.specs.Legal.{IsLegal, entry_after};
+ghost use Rattle.port_rules.specs.Ranges.{IsScriptStep};
 
-use ata_base::{CmdId, OutOfMemory, PortNo};
+use crate::ranges::in_range;
+use ata_base::{Cmd, CmdId, OutOfMemory, PortNo};
 use ata_script::PortHead;
 use ata_trace::{Journal, Step, Who};
-use first_ledger::Ledger;
+use port_ledger::Ledger;
 use std::alloc::Global;
 use std::marker::Model;
 
@@ -23,7 +31,6 @@ use std::marker::Model;
 #[derive(Drop)]
 pub struct Port {
     number: PortNo,
-    head: PortHead,
     ledger: Ledger,
     spare: usize,
 }
@@ -35,7 +42,7 @@ impl Model for Port {
 
     ghost use Rattle.port_core.specs.Kept.{IsKept};
 
-    ghost view = { λ p. record { number = p.number; head = p.head; entries = p.ledger.entries; spare = p.spare } };
+    ghost view = { λ p. record { number = p.number; head = p.ledger.head; entries = p.ledger.entries; spare = p.spare } };
 
     ghost invariant = { IsKept };
 }
@@ -47,11 +54,9 @@ impl Port {
         ensures head { IfOk result (λ p. p.head ≡ head.now) }
         ensures entries { IfOk result (λ p. p.entries ≡ boot_entry head.now ∷ []) }
     {
-        let head = head.copy(alloc)?;
-        let ledger = booted(alloc, &head)?;
+        let ledger = booted(alloc, head.copy(alloc)?)?;
         Ok(Port {
             number,
-            head,
             ledger,
             spare: 0,
         })
@@ -67,25 +72,31 @@ impl Port {
         Ok(())
     }
 
-    /// Makes the entry of a step, the `seq`-th of `who`. It always succeeds, and takes no memory.
+    /// Makes the entry of a step that is built, the `seq`-th of `who`. It always succeeds, and takes no memory.
     pub fn step(&mut self, who: Who, seq: u64, step: &Step)
-        requires { self.old.spare ≡ 1 }
+        requires spare { self.old.spare ≡ 1 }
+        requires built { IsBuilt self.old.head step.now }
         ensures number { self.new.number ≡ self.old.number }
         ensures head { self.new.head ≡ self.old.head }
-        ensures entries { self.new.entries ≡ self.old.entries ++ entry_after (size_of self.old.head) (past_of self.old.entries) who seq step.now ∷ [] }
+        ensures entries { self.new.entries ≡ self.old.entries ++ entry_after self.old.head (past_of self.old.entries) who seq step.now ∷ [] }
         ensures legal { IsLegal self.new.head self.new.entries }
 
         // The laws of every legal journal.
         ensures once { AtEach AreOnceOrLive (past_of self.new.entries) }
-        ensures success { AtEach IsDoneWell (past_of self.new.entries) }
+        ensures success { AtEach (IsDoneWell self.new.head) (past_of self.new.entries) }
+        ensures statuses { AtEach IsRightStatus (past_of self.new.entries) }
+        ensures judgements { AtEach (IsRightJudgement self.new.head) (past_of self.new.entries) }
+        ensures ending { AtEach IsEmptyAtEnd (past_of self.new.entries) }
         ensures tags { AtEach IsTagFree (past_of self.new.entries) }
         ensures links { AtEach AreLinksUnmixed (past_of self.new.entries) }
+        ensures one_link { self.new.head.pmp ≡ true → self.new.head.fbs ≡ false → AtEach IsOneLink (past_of self.new.entries) }
         ensures silence { AtEach IsSilentWhileFrozen (past_of self.new.entries) }
+        ensures after_answer { AtEach IsSilentAfterAnswer (past_of self.new.entries) }
 
         ensures spare { self.new.spare ≡ 0 }
     {
         self.spare = 0;
-        take(&mut self.ledger, &self.head, who, seq, step);
+        take(&mut self.ledger, who, seq, step);
     }
 
     /// The number of the port.
@@ -112,48 +123,55 @@ impl Port {
     /// How many commands are live.
     pub fn live(&self) -> u32
         ensures value { result ≡ length (live (past_of self.now.entries)) }
-        ensures most { result ≤ length (accepted (past_of self.now.entries)) }
+        ensures most { result ≤ length (commands (past_of self.now.entries)) }
         ensures few { result ≤ 65536 }
     {
         self.ledger.live()
     }
 
-    /// The numbers of the accepted commands, in the order of acceptance.
-    pub fn accepted(&self) -> &[CmdId]
-        ensures { result.now ≡ accepted (past_of self.now.entries) }
+    /// The accepted commands, in the order of acceptance.
+    pub fn accepted(&self) -> &[Cmd]
+        ensures { result.now ≡ commands (past_of self.now.entries) }
     {
         self.ledger.accepted()
+    }
+
+    /// The head, lent.
+    pub fn head(&self) -> &PortHead
+        ensures { result.now ≡ self.now.head }
+    {
+        self.ledger.head()
     }
 
     /// How many places the port has.
     pub fn places(&self) -> u8
         ensures { result ≡ self.now.head.places }
     {
-        self.head.places
+        self.ledger.head().places
     }
 }
 
 /// The ledger of a port that has booted.
-fn booted(alloc: Global, head: &PortHead) -> Result<Ledger, OutOfMemory>
-    ensures entries { IfOk result (λ l. l.entries ≡ boot_entry head.now ∷ []) }
-    ensures size { IfOk result (λ l. l.size ≡ size_of head.now) }
-    ensures legal { IfOk result (λ l. IsLegal head.now l.entries) }
+fn booted(alloc: Global, head: PortHead) -> Result<Ledger, OutOfMemory>
+    ensures head { IfOk result (λ l. l.head ≡ head) }
+    ensures entries { IfOk result (λ l. l.entries ≡ boot_entry head ∷ []) }
+    ensures legal { IfOk result (λ l. IsLegal l.head l.entries) }
 {
-    let drives = head.drives.items();
-    let mut ledger = Ledger::new(alloc, first_steps::size_of(drives))?;
-    first_steps::boot(&mut ledger, drives);
+    let mut ledger = Ledger::new(alloc, head)?;
+    port_steps::boot(&mut ledger);
     Ok(ledger)
 }
 
 /// The ledger takes a step.
-fn take(ledger: &mut Ledger, head: &PortHead, who: Who, seq: u64, step: &Step)
+fn take(ledger: &mut Ledger, who: Who, seq: u64, step: &Step)
     requires begins { 0 < ledger.old.begins }
-    requires room { 34 ≤ ledger.old.room }
-    requires size { ledger.old.size ≡ size_of head.now }
-    requires legal { IsLegal head.now ledger.old.entries }
-    ensures entries { ledger.new.entries ≡ ledger.old.entries ++ entry_after (size_of head.now) (past_of ledger.old.entries) who seq step.now ∷ [] }
-    ensures legal { IsLegal head.now ledger.new.entries }
-    ensures size { ledger.new.size ≡ ledger.old.size }
+    requires room { 128 ≤ ledger.old.room }
+    requires built { IsBuilt ledger.old.head step.now }
+    requires legal { IsLegal ledger.old.head ledger.old.entries }
+    ensures entries { ledger.new.entries ≡ ledger.old.entries ++ entry_after ledger.old.head (past_of ledger.old.entries) who seq step.now ∷ [] }
+    ensures legal { IsLegal ledger.new.head ledger.new.entries }
+    ensures head { ledger.new.head ≡ ledger.old.head }
 {
-    first_steps::act(ledger, who, seq, step);
+    in_range(step);
+    port_steps::act(ledger, who, seq, step);
 }

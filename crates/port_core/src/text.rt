@@ -5,12 +5,13 @@ ghost use Rattle.ata_trace.specs.Lent.{entry_lent};
 ghost use Rattle.ata_trace.specs.Text.{act_line, head_line};
 ghost use Rattle.port_core.specs.Text.{port_line, entry_text, live_line, live_text, end_line, counts_text, rest_text, port_text, text_of, texts_of};
 ghost use Rattle.port_core.specs.Hosts.{journals_in};
-ghost use Rattle.first_past.specs.Accepted.{accepted, live};
+ghost use Rattle.port_past.specs.Commands.{commands};
+ghost use Rattle.port_past.specs.Live.{live};
 ghost use Rattle.ata_trace.specs.Entries.{past_of};
 
 use crate::host::Host;
 use crate::port::Port;
-use ata_base::CmdId;
+use ata_base::{Cmd, CmdId};
 use ata_io::{Sink, WriteFault, put_all};
 use ata_trace::{Act, Entry, Journal, Line, set_act_line, set_head_line};
 
@@ -81,7 +82,7 @@ fn put_first<K: Sink>(port: &Port, sink: &mut K) -> Result<(), WriteFault>
 fn put_last<K: Sink>(port: &Port, sink: &mut K) -> Result<(), WriteFault>
     ensures { Writes K.written K.fault_count sink.old sink.new result
         (end_line port.now.number
-        (length (accepted (past_of port.now.entries))) (length (live (past_of port.now.entries)))) }
+        (length (commands (past_of port.now.entries))) (length (live (past_of port.now.entries)))) }
 {
     put_line(
         &end_line(port.number().get(), port.accepted().len(), port.live()),
@@ -155,12 +156,12 @@ fn put_acts<K: Sink>(acts: &[Act], line: &mut Line, sink: &mut K) -> Result<(), 
 }
 
 /// A line for each of these commands that is live.
-fn put_lives<K: Sink>(port: &Port, ids: &[CmdId], sink: &mut K) -> Result<(), WriteFault>
+fn put_lives<K: Sink>(port: &Port, accepted: &[Cmd], sink: &mut K) -> Result<(), WriteFault>
     ensures { Writes K.written K.fault_count sink.old sink.new result
-        (flat_map (live_text (live (past_of port.now.entries))) ids.now) }
+        (flat_map (live_text (live (past_of port.now.entries))) accepted.now) }
 {
-    for id in ids {
-        match put_live(port, *id, sink) {
+    for command in accepted {
+        match put_live(port, command, sink) {
             Ok(()) => {}
             Err(_) => return Err(WriteFault),
         }
@@ -169,12 +170,12 @@ fn put_lives<K: Sink>(port: &Port, ids: &[CmdId], sink: &mut K) -> Result<(), Wr
 }
 
 /// A line for a command, where it is live.
-fn put_live<K: Sink>(port: &Port, id: CmdId, sink: &mut K) -> Result<(), WriteFault>
+fn put_live<K: Sink>(port: &Port, command: &Cmd, sink: &mut K) -> Result<(), WriteFault>
     ensures { Writes K.written K.fault_count sink.old sink.new result
-        (live_text (live (past_of port.now.entries)) id) }
+        (live_text (live (past_of port.now.entries)) command.now) }
 {
-    if port.is_live(id) {
-        put_line(&live_line(id), sink)
+    if port.is_live(command.id) {
+        put_line(&live_line(command.id), sink)
     } else {
         Ok(())
     }

@@ -1,12 +1,24 @@
-use Rattle.std.proofs.Common.{ap, ◌∙◌}
-use Rattle.first_rules.specs.Run.{run}
-use Rattle.host_core.proofs.TakenSteps.{host_more}
-use Rattle.port_core.specs.Weave.{asked_at}
+use Rattle.std.proofs.Common.{rules}
+use Rattle.host_core.proofs.BuiltSteps.{next_built}
+use Rattle.host_core.proofs.TakenSteps.{replayed_none, replayed_more, replayed_all, turn_small}
 use Rattle.host_core.proofs.hosted.hosted.Goals as goal
 
-pub loop-number-preserved : goal.loop-number-preserved
-loop-number-preserved c =
-    rw c.in_ok-push.ensures.ok
-    (host_more c.args.heads.now c.loop-number.number c.index-heads-number.result c.args.steps.now c.loop-number.host c.in_ok-port.port
-    c.loop-number-test.true c.index-heads-number.is c.loop-number.invariant c.in_ok-port.ensures.head
-    (c.in_ok-port.ensures.entries ∙ ap (λ n. run c.index-heads-number.result (asked_at n c.args.steps.now)) c.at.ensures))
+pub loop-taken-init : goal.loop-taken-init
+loop-taken-init c = replayed_none _ _ _ _ c.in_ok-host.ensures c.new-turns.ensures
+
+pub next-seq-requires : goal.next-seq-requires
+next-seq-requires c there small = turn_small _ _ _ _ _ _ _ c.loop-taken.invariant c.loop-taken-test.true (search rules) there small
+
+pub take-requires : goal.take-requires
+take-requires c =
+    next_built c.args.heads.now c.args.steps.now c.loop-taken.taken-index c.loop-taken.host c.loop-taken.turns c.taken-item.result
+    c.loop-taken.invariant c.requires.built c.loop-taken-test.true c.taken-item.is
+
+pub loop-taken-preserved : goal.loop-taken-preserved
+loop-taken-preserved c =
+    replayed_more _ _ _ _ _ _ _ c.taken-item.result c.next-seq.result
+    c.loop-taken.invariant c.loop-taken-test.true c.taken-item.is c.next-seq.ensures.port c.next-seq.ensures.actor
+    c.next-seq.ensures.number c.next-seq.ensures.counted c.in_ok-take.ensures
+
+pub returns : goal.returns
+returns c = replayed_all _ _ _ _ _ c.loop-taken.invariant c.loop-taken-test.false

@@ -1,6 +1,5 @@
-use Rattle.std.proofs.Common.{take}
-use Rattle.host_core.specs.Hosting.{IsHostOf}
+use Rattle.host_core.proofs.TakenSteps.{IsReplayed}
 use Rattle.host_core.proofs.hosted.hosted.Given as goal
 
-abbrev pub invariant-loop-number : goal.invariant-loop-number
-invariant-loop-number l = IsHostOf (take l.number l.heads) l.steps l.host
+abbrev pub invariant-loop-taken : goal.invariant-loop-taken
+invariant-loop-taken l = IsReplayed l.heads l.steps l.taken-index l.host l.turns

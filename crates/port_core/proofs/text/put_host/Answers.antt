@@ -1,4 +1,4 @@
-use Rattle.std.proofs.Common.{List, ℕ, subst, ◌≡◌, ap, ◌∙◌}
+use Rattle.std.proofs.Common.{List, ℕ, subst, ap, ◌∙◌}
 use Rattle.ata_io.specs.Writing.{Writes}
 use Rattle.std.specs.List.{flat_map}
 use Rattle.port_core.specs.Text.{text_of}

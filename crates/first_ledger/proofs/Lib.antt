@@ -1,2 +1,0 @@
-pub mod CommandFlagLemmas
-pub mod WaitLemmas

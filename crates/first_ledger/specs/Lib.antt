@@ -1,5 +1,0 @@
-pub mod CommandFlags
-pub mod LedgerView
-pub mod Parts
-pub mod Sound
-pub mod Tracks
