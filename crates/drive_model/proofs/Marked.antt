@@ -1,5 +1,5 @@
 -- Marks as bits of 64-bit words.
-use Rattle.std.proofs.Common.{◌≡◌, ◌∙◌, ℕ, suc, zero, ◌+◌, ◌*◌, ◌/◌, ◌%◌, ◌<◌, ◌≤◌, ◌^◌, nat_eq, Bool, true, false, cond, List, [], ◌∷◌, ◌++◌, Some, None, length, take, drop, set, replicate, get_or, refl, sym, ap, arith, bit_and, bit_or, inl, inr, length-drop}
+use Rattle.std.proofs.Common.{◌≡◌, ◌∙◌, ℕ, ◌+◌, ◌*◌, ◌/◌, ◌%◌, ◌<◌, ◌≤◌, ◌^◌, nat_eq, Bool, true, false, cond, List, Some, None, length, take, drop, set, replicate, get_or, refl, sym, ap, arith, bit_and, bit_or, inl, inr, length-drop}
 use Rattle.std.specs.Int.{bit_at, bit_not, w64}
 use Rattle.std.proofs.lemmas.Bool.{cases_eq}
 use Rattle.std.proofs.lemmas.Grind.{common_steps}

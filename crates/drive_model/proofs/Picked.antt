@@ -1,5 +1,5 @@
 -- A picked issue is found by its number, where none is held twice.
-use Rattle.std.proofs.Common.{◌≡◌, ◌≢◌, ℕ, ◌+◌, ◌<◌, Bool, true, false, not, filter, List, [], ◌∷◌, ◌++◌, Option, None, Some, length, refl, sym, arith, if◌then◌else◌, ◌%◌}
+use Rattle.std.proofs.Common.{◌≡◌, ◌≢◌, ℕ, ◌<◌, Bool, true, false, not, filter, List, [], ◌∷◌, ◌++◌, Option, None, Some, length, refl, sym, arith, if◌then◌else◌, ◌%◌}
 use Rattle.std.proofs.lemmas.Bool.{eq-eqb, ne_eqb}
 use Rattle.drive_model.specs.View.{DriveView}
 use Rattle.drive_model.specs.declared.held.Held.{Held}

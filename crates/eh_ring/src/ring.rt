@@ -31,7 +31,7 @@ impl Model for Ring {
 
 impl Ring {
     ghost use Rattle.eh_ring.specs.Counts.{counts_in};
-    ghost use Rattle.eh_ring.specs.Marks.{old_entry, with_clean_top};
+    ghost use Rattle.eh_ring.specs.Marks.{old_entry, with_clean_top, with_entry};
     ghost use Rattle.eh_ring.specs.Bytes.{IsSpread};
 
     /// An empty ring with room for 32 entries.
@@ -89,6 +89,39 @@ impl Ring {
             time: six[4],
             unk: six[5],
         }
+    }
+
+    /// The counts in the window of the ring once it has an entry more, which the window begins with.
+    pub fn counts_with(&self, e: &RingEntry, since: Ms) -> Counts
+        ensures { result ≡ counts_in (with_entry e.now self.now) since.n }
+    {
+        let (cats, times, n) = self.spread_with(e);
+        let six = count_cats(&cats, &times, n, since.n);
+        Counts {
+            dbus: six[0],
+            dtime: six[1],
+            dunk: six[2],
+            bus: six[3],
+            time: six[4],
+            unk: six[5],
+        }
+    }
+
+    // The category bytes and the times of an entry and of those that the ring keeps beside it, the newest first.
+    fn spread_with(&self, e: &RingEntry) -> ([u8; 32], [u64; 32], usize)
+        ensures { IsSpread (with_entry e.now self.now) result.0 result.1 result.2 }
+    {
+        let mut cats = [0; 32];
+        let mut times = [0; 32];
+        cats[0] = byte(e);
+        times[0] = e.at.n;
+        let n = self.entries.len().min(31);
+        for i in 0..n {
+            let entry = self.nth_newest(i);
+            cats[i + 1] = byte(&entry);
+            times[i + 1] = entry.at.n;
+        }
+        (cats, times, n + 1)
     }
 
     // The category bytes and the times of the entries, the newest first.

@@ -8,5 +8,5 @@ mod steps;
 
 pub use action::decide;
 pub use error_verdict::Verdict;
-pub use judging::verdict;
+pub use judging::{verdict, verdict_with};
 pub use steps::{down_mode, down_speed};

@@ -1,4 +1,4 @@
-use Rattle.std.proofs.Common.{◌≡◌, ◌∙◌, ℕ, ◌+◌, ◌<◌, min, nat_lt, Bool, true, false, List, [], ◌∷◌, ◌++◌, Option, None, Some, length, take, get_or, filter, filter_map, option_map, option_to_list, refl, sym, ap, if◌then◌else◌}
+use Rattle.std.proofs.Common.{◌≡◌, ℕ, ◌+◌, ◌<◌, min, nat_lt, Bool, true, false, List, [], ◌∷◌, ◌++◌, Option, None, Some, length, take, get_or, filter, filter_map, option_map, refl, ap, if◌then◌else◌}
 use Rattle.std.specs.List.{reduce, cons_option}
 use Rattle.std.proofs.lemmas.List.{append-nil, take_more}
 use Rattle.std.proofs.lemmas.List.Elements.{filter-append, filter_map-append}
@@ -23,7 +23,7 @@ above_one clock None = refl
 above_one clock (Some time) = kept time (nat_lt clock time)
 
 -- the least time of a list above the clock, and of one time more
-above_more :
+pub above_more :
     (clock : ℕ) (times : List ℕ) (time : Option ℕ)
     → reduce min (filter (nat_lt clock) (times ++ cons_option time []))
     ≡ lesser (reduce min (filter (nat_lt clock) times)) (time_above clock time)

@@ -57,8 +57,8 @@ fn drain_time(quiet: Option<Ms>) -> Option<u64>
     }
 }
 
-/// The time where it is above `now`.
-fn time_above(time: Option<u64>, now: Ms) -> Option<u64>
+/// The time, in ms, where it is above `now`; `None` where it isn't, or there is none.
+pub fn time_above(time: Option<u64>, now: Ms) -> Option<u64>
     ensures { result ≡ time_above now.n time }
 {
     match time {
@@ -67,8 +67,8 @@ fn time_above(time: Option<u64>, now: Ms) -> Option<u64>
     }
 }
 
-/// The lesser of two times, of which either may be missing.
-fn lesser(a: Option<u64>, b: Option<u64>) -> Option<u64>
+/// The lesser of two times in ms, of which either may be missing; `None` where both are.
+pub fn lesser(a: Option<u64>, b: Option<u64>) -> Option<u64>
     ensures { result ≡ lesser a b }
 {
     match (a, b) {

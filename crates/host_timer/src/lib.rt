@@ -6,6 +6,6 @@ mod coming_time;
 mod drain;
 mod due_tags;
 
-pub use coming_time::coming;
+pub use coming_time::{coming, lesser, time_above};
 pub use drain::{DRAIN_WAIT, drain_now};
 pub use due_tags::due;

@@ -186,31 +186,48 @@ fn causes(rt: HostRuntime) -> Result<(), Fail> {
     Ok(())
 }
 
-/// What the log says of a queued read under tag 0 that was aborted, beside one under tag 1, and what is held then.
-fn log(alloc: Global, fault: Fault, idle: Option<Tag>) -> Result<(Option<[u8; 512]>, u32), Fail> {
+/// Whether the log has a fault, its page, and the tags that are held after it was read.
+type Reading = (bool, Option<[u8; 512]>, u32);
+
+/// Whether the log has a fault, what it says of a queued read under tag 0 that was aborted, beside one under tag 1, and what is
+/// held then.
+fn log(alloc: Global, fault: Fault, idle: Option<Tag>) -> Result<Reading, Fail> {
     let mut drive = drive(alloc)?;
     inject(&mut drive, Fault::Abort { k: 1 });
     inject(&mut drive, fault);
     queue(&mut drive, 1, tag(0)?, &READ)?;
     queue(&mut drive, 2, tag(1)?, &READ)?;
     work(&mut drive, 0);
+    let stands = drive.log_fault(idle).is_some();
     let page = drive.read_log(idle);
-    Ok((page, drive.held()))
+    Ok((stands, page, drive.held()))
 }
 
 #[test]
 fn logs(rt: HostRuntime) -> Result<(), Fail> {
     let rows = [
-        (Fault::Hang { k: 0 }, 2, Some(Ok(0)), 0),
-        (Fault::LogFail { k: 1 }, 2, None, 2),
-        (Fault::LogSum { k: 1 }, 2, Some(Err(LogError::BadSum)), 0),
-        (Fault::LogNq { k: 1 }, 2, Some(Err(LogError::NotQueued)), 0),
-        (Fault::LogIdle { k: 1 }, 2, Some(Ok(2)), 0),
+        (Fault::Hang { k: 0 }, 2, false, Some(Ok(0)), 0),
+        (Fault::LogFail { k: 1 }, 2, true, None, 2),
+        (
+            Fault::LogSum { k: 1 },
+            2,
+            true,
+            Some(Err(LogError::BadSum)),
+            0,
+        ),
+        (
+            Fault::LogNq { k: 1 },
+            2,
+            true,
+            Some(Err(LogError::NotQueued)),
+            0,
+        ),
+        (Fault::LogIdle { k: 1 }, 2, true, Some(Ok(2)), 0),
         // All 32 tags are in flight.
-        (Fault::LogIdle { k: 1 }, 32, Some(Ok(0)), 0),
+        (Fault::LogIdle { k: 1 }, 32, false, Some(Ok(0)), 0),
     ];
-    for (fault, idle, want, held) in rows {
-        let (page, left) = log(rt.alloc(), fault, Tag::new(idle))?;
+    for (fault, idle, faulty, want, held) in rows {
+        let (stands, page, left) = log(rt.alloc(), fault, Tag::new(idle))?;
         let said = match page {
             Some(page) => match ata_log::read(&page) {
                 Ok((tag, _)) => Some(Ok(tag.get())),
@@ -218,7 +235,10 @@ fn logs(rt: HostRuntime) -> Result<(), Fail> {
             },
             None => None,
         };
-        assert!(rt; said == want && left == held, "{fault:?}");
+        assert!(rt;
+            stands == faulty && said == want && left == held,
+            "{fault:?}"
+        );
     }
     Ok(())
 }

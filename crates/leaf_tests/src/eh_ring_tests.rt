@@ -39,20 +39,22 @@ fn the_last_32_and_their_marks(rt: HostRuntime) -> Result<(), Fail> {
     let since = Ms { n: 0 };
     let mut ring = Ring::new(rt.alloc())?;
     ring.note(entry(Kinds::at(ErrMask::TIMEOUT), true, 0));
-    for at in 1..33 {
+    for at in 1..32 {
         ring.note(entry(Kinds::at(ErrMask::ATA_BUS), true, at));
     }
-    assert_eq!(rt;
-        ring.counts(since),
-        Counts {
-            dbus: 32,
-            dtime: 0,
-            dunk: 0,
-            bus: 0,
-            time: 0,
-            unk: 0
-        }
-    );
+    let last = entry(Kinds::at(ErrMask::ATA_BUS), true, 32);
+    let only_buses = Counts {
+        dbus: 32,
+        dtime: 0,
+        dunk: 0,
+        bus: 0,
+        time: 0,
+        unk: 0,
+    };
+    // The timeout is dropped, and would be with the last entry.
+    assert_eq!(rt; ring.counts_with(&last, since), only_buses);
+    ring.note(last);
+    assert_eq!(rt; ring.counts(since), only_buses);
     ring.verify_top();
     assert_eq!(rt;
         ring.counts(Ms { n: 31 }),

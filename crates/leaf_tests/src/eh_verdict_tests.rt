@@ -77,10 +77,14 @@ fn verdicts(rt: HostRuntime) -> Result<(), Fail> {
         ),
     ] {
         let mut ring = Ring::new(rt.alloc())?;
+        let now = Ms { n: now };
         for told in entries.iter().rev() {
-            ring.note(entry(*told));
+            let newest = entry(*told);
+            let with_it = verdict_with(&ring, &newest, now);
+            ring.note(newest);
+            assert_eq!(rt; with_it, verdict(&ring, now), "{entries:?}");
         }
-        assert_eq!(rt; verdict(&ring, Ms { n: now }), want, "{entries:?} at {now}");
+        assert_eq!(rt; verdict(&ring, now), want, "{entries:?}");
     }
     Ok(())
 }

@@ -59,3 +59,21 @@ fn a_quiet_port_gives_up(rt: HostRuntime) {
     assert!(rt; !drain_now(quiet, Ms { n: 3_499 }));
     assert!(rt; drain_now(quiet, Ms { n: 3_500 }));
 }
+
+/// A time above now, and the lesser of two of which either may be missing.
+#[test]
+fn times(rt: HostRuntime) {
+    let now = Ms { n: 5 };
+    assert_eq!(rt;
+        (time_above(Some(6), now), time_above(Some(5), now)),
+        (Some(6), None)
+    );
+    for (a, b, want) in [
+        (Some(3), Some(2), Some(2)),
+        (Some(3), None, Some(3)),
+        (None, Some(2), Some(2)),
+        (None, None, None),
+    ] {
+        assert_eq!(rt; lesser(a, b), want);
+    }
+}

@@ -4,7 +4,8 @@ use Rattle.std.proofs.lemmas.List.{drop-append-le}
 use Rattle.circular_buffer.specs.Buffer.{keep_last}
 use Rattle.eh_ring.specs.declared.entry.RingEntry.{RingEntry}
 use Rattle.port_past.specs.Places.{changed_at}
-use Rattle.port_past.specs.Rings.{with_entry, no_entries}
+use Rattle.eh_ring.specs.Marks.{with_entry}
+use Rattle.port_past.specs.Rings.{no_entries}
 use Rattle.port_ledger.proofs.ListLemmas.{changed_is}
 
 pub changed_ring : (at : ℕ) (f : List RingEntry → List RingEntry) (xs : List (List RingEntry)) → changed_at at f xs ≡ slice_set xs at (f (get_or xs at no_entries))

@@ -28,6 +28,14 @@ impl Drive {
         page
     }
 
+    /// The fault of the next reading of the error log, `idle` the least tag that isn't in flight: the first of logfail,
+    /// logsum, lognq and logidle that is still to come. Where each tag is in flight logidle doesn't apply.
+    pub fn log_fault(&self, idle: Option<Tag>) -> Option<LogFault>
+        ensures { result ≡ log_fault_of self.now.drive.counts idle }
+    {
+        self.counts.log_fault(idle)
+    }
+
     /// The page that `read_log` would give, with the same faults; nothing changes.
     pub fn log_page(&self, idle: Option<Tag>) -> Option<[u8; 512]>
         ensures { result ≡ log_said self.now.drive.stopped self.now.drive.counts idle }

@@ -1,6 +1,5 @@
-use Rattle.std.proofs.Common.{◌≡◌, ◌∙◌, ◌<◌, ◌≤◌, length, take, get_or, refl, rules, arith, sym, ap, option_map}
+use Rattle.std.proofs.Common.{◌≡◌, ◌∙◌, take, refl, rules, arith, sym}
 use Rattle.std.proofs.lemmas.List.{take_all}
-use Rattle.host_timer.specs.Coming.{coming_of, lesser, time_above}
 use Rattle.host_timer.proofs.ComingLemmas.{coming_more, coming_all}
 use Rattle.host_timer.proofs.coming_time.coming.Goals as goal
 
