@@ -13,7 +13,7 @@ use Rattle.ata_base.specs.declared.speed_action.SpeedAction.TheVariants.{NoChang
 use Rattle.eh_reval.specs.Probes.{no_probes, probe_limit_of, with_probe as noted_at}
 use Rattle.eh_reval.specs.declared.probe_times.ProbeTimes.{ProbeTimes}
 use Rattle.eh_ring.specs.declared.entry.RingEntry.{RingEntry}
-use Rattle.eh_ring.specs.Marks.{old_entry}
+use Rattle.eh_ring.specs.Marks.{old_entry, with_entry}
 use Rattle.host_tags.specs.declared.in_flight.InFlight.{InFlight}
 use Rattle.link_model.specs.LinkView.{LinkView, empty_link}
 use Rattle.port_past.specs.Clock.{clock}
@@ -30,7 +30,7 @@ use Rattle.port_past.specs.Modes.{ncq_on}
 use Rattle.port_past.specs.Lowerings.{lowerings}
 use Rattle.port_past.specs.Noted.{tferr_noted}
 use Rattle.port_past.specs.Places.{changed_at}
-use Rattle.port_past.specs.Rings.{rings, no_entries, with_entry}
+use Rattle.port_past.specs.Rings.{rings, no_entries}
 use Rattle.port_past.specs.Slots.{slots}
 use Rattle.eh_autopsy.specs.Kinds.{is_hotplug}
 use Rattle.port_facts.specs.Judgements.{told_before_action}
@@ -43,37 +43,11 @@ use Rattle.port_facts.specs.Allowed.{AreAllowed}
 use Rattle.port_facts.proofs.Allowed.{allowed_append}
 use Rattle.host_tags.proofs.FlightLemmas.{at_front, at_rest}
 use Rattle.port_facts.proofs.Owned.{AreSteady, append_steady}
+use Rattle.port_rules.proofs.Views.{IsOff, off_view}
 use Rattle.host_tags.specs.EachFlight.{kept_at}
 use Rattle.port_past.specs.JudgedSlots.{AreJudged}
 
--- ---- a view by what the autopsy's acts change
-
-abbrev view_by : PortHead → List Event → ℕ → LinkView → List RingEntry → ℕ → ProbeTimes → AutopsyView
-view_by head p x link ring lowered times = record {
-  place = x;
-  pmp = head.pmp;
-  frozen = is_frozen p;
-  attached = slice_index_or (attached p) x false;
-  serror = link.serror;
-  slots = slots p;
-  commands = commands p;
-  noted = slice_index_or (tferr_noted p) x None;
-  log = slice_index_or (logs p) x None;
-  dubious = slice_index_or (dubious p) x false;
-  ring = ring;
-  ncq_on = slice_index_or (ncq_on p) x false;
-  speed = min link.limit (generation_at head p x);
-  lowerings = lowered;
-  probes = times;
-  clock = clock p;
-}
-
-other_at : {A : Type 0} (y x : ℕ) (change : A → A) (xs : List A) (d : A) → x ≢ y → get_or (changed_at y change xs) x d ≡ get_or xs x d
-other_at y x change [] d other = refl
-other_at zero zero change (z ∷ xs) d other = absurd (other refl)
-other_at zero (suc x) change (z ∷ xs) d other = refl
-other_at (suc y) zero change (z ∷ xs) d other = refl
-other_at (suc y) (suc x) change (z ∷ xs) d other = other_at y x change xs d (λ e. other (ap suc e))
+-- ---- what the autopsy of a place leaves
 
 -- an act of the autopsy of a place
 abbrev pub IsAt : ℕ → Act → Type 0
@@ -101,45 +75,19 @@ at_steady y (Hot place generation ∷ rest) at = (tt, at_steady y rest at.1)
 at_steady y (Action place kinds chosen ∷ rest) at = (tt, at_steady y rest at.1)
 at_steady y (act ∷ rest) at = absurd at.0
 
-other_recorded :
-    (head : PortHead) (p : List Event) (y x : ℕ) (io doubt : Bool) (kinds : ErrMask) (ncq_off speed_down pio keep : Bool) (action : SpeedAction)
-    → x ≢ y
-    → autopsy_view head (Told (Recorded y io doubt kinds ncq_off speed_down pio keep action) ∷ p) x ≡ autopsy_view head p x
-other_recorded head p y x io doubt kinds ncq_off speed_down pio keep NoChange other =
-    ap (λ ring. view_by head p x (link_at (links head p) x) ring (slice_index (lowerings p) x) (slice_index_or (probes p) x no_probes))
-    (other_at y x (with_entry (record { io = io; dubious = doubt; stale = false; kinds = kinds; at = record { n = clock p } })) (rings p) no_entries other)
-other_recorded head p y x io doubt kinds ncq_off speed_down pio keep NcqOff other =
-    ap (λ ring. view_by head p x (link_at (links head p) x) ring (slice_index (lowerings p) x) (slice_index_or (probes p) x no_probes))
-    (other_at y x (with_entry (record { io = io; dubious = doubt; stale = false; kinds = kinds; at = record { n = clock p } })) (rings p) no_entries other)
-other_recorded head p y x io doubt kinds ncq_off speed_down pio keep (Speed g) other =
-    let act = Recorded y io doubt kinds ncq_off speed_down pio keep (Speed g) in
-    ap (λ ring. view_by head p x (link_at (links head (Told act ∷ p)) x) ring (slice_index (lowerings p) x) (slice_index_or (probes p) x no_probes))
-    (other_at y x (with_entry (record { io = io; dubious = doubt; stale = false; kinds = kinds; at = record { n = clock p } })) (rings p) no_entries other)
-    ∙ ap (λ link. view_by head p x link (slice_index_or (rings p) x no_entries) (slice_index (lowerings p) x) (slice_index_or (probes p) x no_probes))
-    (other_at y x (limited g) (links head p) empty_link other)
-other_recorded head p y x io doubt kinds ncq_off speed_down pio keep (Mode udma) other =
-    let act = Recorded y io doubt kinds ncq_off speed_down pio keep (Mode udma) in
-    ap (λ ring. view_by head p x (link_at (links head p) x) ring (slice_index (lowerings (Told act ∷ p)) x) (slice_index_or (probes p) x no_probes))
-    (other_at y x (with_entry (record { io = io; dubious = doubt; stale = false; kinds = kinds; at = record { n = clock p } })) (rings p) no_entries other)
-    ∙ ap (λ n. view_by head p x (link_at (links head p) x) (slice_index_or (rings p) x no_entries) n (slice_index_or (probes p) x no_probes))
-    (other_at y x (λ n. n + 1) (lowerings p) 0 other)
+-- it is told of no other place
+off_of : (y x : ℕ) (act : Act) → x ≢ y → IsAt y act → IsOff x act
+off_of y x (Judged number kinds) other at = tt
+off_of y x (Recorded place io doubt kinds ncq_off speed_down pio keep action) other at = λ e. other (e ∙ at)
+off_of y x (Cleared place) other at = λ e. other (e ∙ at)
+off_of y x (Hot place generation) other at = λ e. other (e ∙ at)
+off_of y x (Action place kinds chosen) other at = λ e. other (e ∙ at)
+off_of y x act other at = absurd at
 
 other_view :
     (head : PortHead) (p : List Event) (y x : ℕ) (act : Act) → x ≢ y → IsAt y act
     → autopsy_view head (Told act ∷ p) x ≡ autopsy_view head p x
-other_view head p y x (Judged number kinds) other at = refl
-other_view head p y x (Recorded place io doubt kinds ncq_off speed_down pio keep action) other at =
-    other_recorded head p place x io doubt kinds ncq_off speed_down pio keep action (λ e. other (e ∙ at))
-other_view head p y x (Cleared place) other at =
-    ap (λ ring. view_by head p x (link_at (links head p) x) ring (slice_index (lowerings p) x) (slice_index_or (probes p) x no_probes))
-    (other_at place x (map old_entry) (rings p) no_entries (λ e. other (e ∙ at)))
-other_view head p y x (Hot place generation) other at =
-    ap (λ link. view_by head p x link (slice_index_or (rings p) x no_entries) (slice_index (lowerings p) x) (slice_index_or (probes (Told (Hot place generation) ∷ p)) x no_probes))
-    (other_at place x (limited generation) (links head p) empty_link (λ e. other (e ∙ at)))
-    ∙ ap (λ times. view_by head p x (link_at (links head p) x) (slice_index_or (rings p) x no_entries) (slice_index (lowerings p) x) times)
-    (other_at place x (noted_at (record { n = clock p })) (probes p) no_probes (λ e. other (e ∙ at)))
-other_view head p y x (Action place kinds chosen) other at = refl
-other_view head p y x act other at = absurd at
+other_view head p y x act other at = off_view head p x act (off_of y x act other at)
 
 views_onto :
     (head : PortHead) (y x : ℕ) (p : List Event) (acts : List Act) → x ≢ y → AreAt y acts

@@ -1,6 +1,6 @@
 -- All that recovery speaks of is at the port's places; and an autopsied recovery has judged each issue.
 use Rattle.port_rules.proofs.RecoverByPhase.{open_ident_acts, unanswered_acts}
-use Rattle.std.proofs.Common.{◌≡◌, ℕ, ◌+◌, ◌<◌, ◌≤◌, ◌||◌, ◌&&◌, ◌==◌, nat_lt, Bool, true, false, List, [], ◌∷◌, Option, None, Some, is_some, option_map, option_and_then, suc, zero, slice_set, slice_index, refl, arith, if◌then◌else◌, unwrap_or}
+use Rattle.std.proofs.Common.{◌≡◌, ℕ, ◌+◌, ◌<◌, ◌≤◌, ◌||◌, ◌&&◌, ◌==◌, nat_lt, Bool, true, false, List, [], ◌∷◌, Option, None, Some, is_some, option_map, suc, zero, slice_set, slice_index, refl, arith, if◌then◌else◌, unwrap_or}
 use Rattle.std.specs.List.{flat_map, range_with_len, slice_index_or}
 use Rattle.ata_base.specs.declared.err_mask.ErrMask.{ErrMask}
 use Rattle.ata_base.specs.declared.identity.Identity.{Identity}
@@ -22,7 +22,7 @@ use Rattle.port_past.specs.IdentAnswers.{is_ident_answered}
 use Rattle.port_past.specs.Commands.{commands}
 use Rattle.port_past.specs.Attachment.{attached}
 use Rattle.port_past.specs.PortState.{is_asked, is_frozen, is_running, is_autopsied}
-use Rattle.port_past.specs.Heads.{drive_at_boot, identity_of, places_of}
+use Rattle.port_past.specs.Heads.{places_of}
 use Rattle.port_past.specs.Hot.{was_hot}
 use Rattle.port_past.specs.Judged.{judged, with_judgement}
 use Rattle.port_past.specs.Logs.{logs}
@@ -37,7 +37,7 @@ use Rattle.port_past.specs.declared.place_told.PlaceTold.{PlaceTold}
 use Rattle.port_past.specs.declared.place_told.PlaceTold.TheVariants.{NotBegun, ResetBegun as ToldResetBegun, ResetLate as ToldResetLate, ResetEnded as ToldResetEnded, ResetFailed as ToldResetFailed, IdentAsked as ToldIdentAsked, IdentLate as ToldIdentLate, Mode as ToldMode}
 use Rattle.port_past.specs.declared.task.Task.{Task}
 use Rattle.port_past.specs.declared.task.Task.TheVariants.{Host, Reset, Revalidate as IdentityTask}
-use Rattle.port_rules.specs.Boot.{found_acts, boot_acts}
+use Rattle.port_rules.specs.Boot.{found_acts, found_at, boot_acts}
 use Rattle.port_rules.specs.Identities.{attach_acts, is_attached_drive, identity_read_acts}
 use Rattle.port_rules.specs.Phase.{host_phase, place_phase, is_wanted, task_phase, first_phase, phase}
 use Rattle.port_rules.specs.Told.{or_nothing}
@@ -110,18 +110,14 @@ found_steady : (place : ℕ) (i : Option Identity) → AreSteady (found_acts pla
 found_steady place None = tt
 found_steady place (Some i) = (tt, (tt, (tt, tt)))
 
--- what stands at a place at boot
-abbrev at_boot : PortHead → ℕ → List Act
-at_boot head place = found_acts place (option_and_then (identity_of head.drives) (drive_at_boot head.drives place))
-
-boot_from : (head : PortHead) (n k : ℕ) (p : List Event) → k + n ≤ head.places → AreAllowed head p (flat_map (at_boot head) (range_with_len k n))
+boot_from : (head : PortHead) (n k : ℕ) (p : List Event) → k + n ≤ head.places → AreAllowed head p (flat_map (found_at head) (range_with_len k n))
 boot_from head zero k p fits = tt
 boot_from head (suc n) k p fits =
-    allowed_append head p (at_boot head k) _ (found_allowed head p k _ (omega (arith, fits))) (boot_from head n (k + 1) _ (omega (arith, fits)))
+    allowed_append head p (found_at head k) _ (found_allowed head p k _ (omega (arith, fits))) (boot_from head n (k + 1) _ (omega (arith, fits)))
 
-boot_all_steady : (head : PortHead) (places : List ℕ) → AreSteady (flat_map (at_boot head) places)
+boot_all_steady : (head : PortHead) (places : List ℕ) → AreSteady (flat_map (found_at head) places)
 boot_all_steady head [] = tt
-boot_all_steady head (k ∷ places) = append_steady (at_boot head k) _ (found_steady k _) (boot_all_steady head places)
+boot_all_steady head (k ∷ places) = append_steady (found_at head k) _ (found_steady k _) (boot_all_steady head places)
 
 or_nothing_steady : (acts : List Act) → AreSteady acts → AreSteady (or_nothing acts)
 or_nothing_steady [] steady = (tt, tt)

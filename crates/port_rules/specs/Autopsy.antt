@@ -21,7 +21,7 @@ use Rattle.eh_verdict.specs.Table.{verdict_of}
 use Rattle.eh_verdict.specs.declared.error_verdict.Verdict.{Verdict}
 use Rattle.host_tags.specs.declared.in_flight.InFlight.{InFlight}
 use Rattle.port_past.specs.Commands.{command_of}
-use Rattle.port_past.specs.Rings.{with_entry}
+use Rattle.eh_ring.specs.Marks.{with_entry}
 use Rattle.host_tags.specs.Slots.{is_owned_at}
 use Rattle.port_rules.specs.Blame.{link_kinds, is_hotplugged, judged_here}
 use Rattle.port_past.specs.Heads.{places_of}

@@ -17,11 +17,13 @@ found_acts place None = []
 found_acts place (Some i) =
     Identified place i.model i.serial i.sectors i.depth ∷ Attached place ∷ Mode place fastest_udma (not (i.depth == 0)) true ∷ []
 
+-- what is told of the drive that stands at a place when its port boots
+abbrev pub found_at : PortHead → ℕ → List Act
+found_at head place = found_acts place (option_and_then (identity_of head.drives) (drive_at_boot head.drives place))
+
 -- the acts of the boot, place after place
 abbrev pub boot_acts : PortHead → List Act
-boot_acts head = or_nothing
-    (flat_map (λ place. found_acts place (option_and_then (identity_of head.drives) (drive_at_boot head.drives place)))
-    (places_of head))
+boot_acts head = or_nothing (flat_map (found_at head) (places_of head))
 
 -- the boot entry of a port
 abbrev pub boot_entry : PortHead → EntryView

@@ -3,7 +3,6 @@ pub mod AutopsyView
 pub mod Begin
 pub mod Blame
 pub mod Boot
-pub mod Built
 pub mod Coming
 pub mod Finish
 pub mod Identities

@@ -1,4 +1,4 @@
-use Rattle.std.specs.Prelude.{ℕ, List, [], ◌∷◌}
+use Rattle.std.specs.Prelude.{ℕ, ◌+◌, List, [], ◌∷◌}
 use Rattle.ata_script.specs.declared.port_head.PortHead.{PortHead}
 use Rattle.ata_trace.specs.Entries.{EntryView, grown}
 use Rattle.ata_trace.specs.Event.{Event}
@@ -12,6 +12,11 @@ pub record StepCall : Type 0 where
   pub who : Who
   pub seq : ℕ
   pub step : Step
+
+-- these steps of one account, numbered on from here
+abbrev pub numbered : Who → ℕ → List Step → List StepCall
+numbered who seq [] = []
+numbered who seq (step ∷ rest) = record { who = who; seq = seq; step = step } ∷ numbered who (seq + 1) rest
 
 -- the entries that these steps make after this past
 abbrev pub run_from : PortHead → List Event → List StepCall → List EntryView

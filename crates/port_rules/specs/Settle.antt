@@ -15,7 +15,7 @@ use Rattle.port_past.specs.Settlings.{settle_count}
 use Rattle.port_past.specs.Heads.{places_of}
 use Rattle.port_rules.specs.Coming.{coming}
 use Rattle.port_rules.specs.Legal.{entry_after}
-use Rattle.port_rules.specs.Run.{StepCall, run_from, run}
+use Rattle.port_rules.specs.Run.{StepCall, numbered, run_from, run}
 
 -- the steps of a round: each place is kicked, each drive works, and then the port's own steps
 abbrev pub round_steps : PortHead → List Step
@@ -26,8 +26,7 @@ round_steps head =
 
 -- these steps of the settling, numbered on from here
 abbrev pub calls_from : ℕ → List Step → List StepCall
-calls_from seq [] = []
-calls_from seq (step ∷ rest) = record { who = Settle; seq = seq; step = step } ∷ calls_from (seq + 1) rest
+calls_from seq steps = numbered Settle seq steps
 
 -- whether an act is nothing, deferred or waiting
 abbrev pub is_idle_act : Act → Bool

@@ -1,5 +1,5 @@
 -- All that stands of every port, over each entry and of each legal journal.
-use Rattle.std.proofs.Common.{◌≡◌, ◌∙◌, ℕ, false, not, List, [], ◌∷◌, Option, Some, option_map, flat_map, option_and_then, inr, refl, sym, ap, subst}
+use Rattle.std.proofs.Common.{◌≡◌, ◌∙◌, ℕ, false, not, List, [], ◌∷◌, Option, Some, option_map, flat_map, inr, refl, sym, ap, subst}
 use Rattle.std.specs.Prelude.{slice_index}
 use Rattle.std.specs.Option.{option_map_or}
 use Rattle.std.proofs.lemmas.Bool.{eq-eqb}
@@ -16,8 +16,8 @@ use Rattle.ata_trace.specs.declared.step.Step.{Step}
 use Rattle.ata_trace.specs.declared.step.Step.TheVariants.{Boot}
 use Rattle.ata_trace.specs.declared.who.Who.{Who}
 use Rattle.ata_trace.specs.declared.who.Who.TheVariants.{Boot as ByBoot}
-use Rattle.port_past.specs.Heads.{identity_of, drive_at_boot, places_of}
-use Rattle.port_rules.specs.Boot.{found_acts, boot_acts, boot_entry}
+use Rattle.port_past.specs.Heads.{places_of}
+use Rattle.port_rules.specs.Boot.{found_at, boot_acts, boot_entry}
 use Rattle.port_rules.specs.Legal.{entry_after, AreLegal, HasLegalActs, IsLegal}
 use Rattle.port_stands.proofs.Dated.{is_no_accept, dated_onto}
 use Rattle.port_stands.proofs.Devices.{devices_after}
@@ -46,7 +46,7 @@ all_after head fits past who seq step was =
 
 module _ (head : PortHead) where
   abbrev found : List Act
-  found = flat_map (λ place. found_acts place (option_and_then (identity_of head.drives) (drive_at_boot head.drives place))) (places_of head)
+  found = flat_map (found_at head) (places_of head)
 
   -- all stands after the boot
   pub boot_all : AllStands head (grown [] (boot_entry head))

@@ -29,7 +29,7 @@ use Rattle.port_past.specs.Lowerings.{ncq_ended}
 use Rattle.port_past.specs.Doubt.{dubious}
 use Rattle.port_past.specs.Slots.{slots}
 use Rattle.port_rules.specs.Autopsy.{examined_acts, autopsy_acts}
-use Rattle.port_rules.specs.Boot.{found_acts, boot_entry}
+use Rattle.port_rules.specs.Boot.{found_acts, found_at, boot_entry}
 use Rattle.port_rules.specs.Finish.{finishes, finish_acts}
 use Rattle.port_rules.specs.Identities.{attach_acts, udma_of, ncq_of, is_other_mode, mode_act, is_attached_drive, identity_acts}
 use Rattle.port_rules.specs.Sorting.{ok_answers, condemnations}
@@ -201,12 +201,12 @@ module _ (head : PortHead) where
 
   range_queues :
       (base : List Event) (k n : ℕ) → HasQueues base
-      → HasQueues (onto base (flat_map (λ place. found_acts place (option_and_then (identity_of head.drives) (drive_at_boot head.drives place))) (range_with_len k n)))
+      → HasQueues (onto base (flat_map (found_at head) (range_with_len k n)))
   range_queues base k zero was = was
   range_queues base k (suc n) was =
       let found : Option Identity = option_and_then (identity_of head.drives) (drive_at_boot head.drives k) in
       let acts : List Act = found_acts k found in
-      subst HasQueues (sym (onto_append base acts (flat_map (λ place. found_acts place (option_and_then (identity_of head.drives) (drive_at_boot head.drives place))) (range_with_len (k + 1) n))))
+      subst HasQueues (sym (onto_append base acts (flat_map (found_at head) (range_with_len (k + 1) n))))
       (range_queues (onto base acts) (k + 1) n (found_queues base k found was))
 
   or_nothing_queues : (acts : List Act) → HasQueues (onto (Entered 0 ByBoot 0 Boot ∷ []) acts) → HasQueues (onto (Entered 0 ByBoot 0 Boot ∷ []) (or_nothing acts))
@@ -215,7 +215,7 @@ module _ (head : PortHead) where
 
   boot_queues : HasQueues (grown [] (boot_entry head))
   boot_queues =
-      or_nothing_queues (flat_map (λ place. found_acts place (option_and_then (identity_of head.drives) (drive_at_boot head.drives place))) (places_of head))
+      or_nothing_queues (flat_map (found_at head) (places_of head))
       (range_queues (Entered 0 ByBoot 0 Boot ∷ []) 0 head.places (λ x is. absurd (cc (is, read_same 15 x false))))
 
   modeless_steps : HasSteps is_modeless

@@ -34,7 +34,7 @@ use Rattle.port_past.specs.Links.{links, link_at, linked_at, plugged_at, link_at
 use Rattle.port_past.specs.Places.{changed_at}
 use Rattle.port_past.specs.PlaceTold.{place_told}
 use Rattle.port_past.specs.declared.place_told.PlaceTold.TheVariants.{NotBegun as NothingSeen, ResetBegun as ResetOpenSeen}
-use Rattle.port_rules.specs.Boot.{found_acts, boot_entry}
+use Rattle.port_rules.specs.Boot.{found_acts, found_at, boot_entry}
 use Rattle.port_rules.specs.Identities.{identity_acts}
 use Rattle.port_rules.specs.Legal.{legal_acts, entry_after, AreLegal, HasLegalActs, IsLegal}
 use Rattle.port_rules.specs.Logs.{log_owed, log_acts}
@@ -321,11 +321,11 @@ module _ (head : PortHead) where
 
   range_standing :
       (p : List Event) (k n : ℕ) → AreStanding p
-      → AreStanding (onto p (flat_map (λ place. found_acts place (option_and_then (identity_of head.drives) (drive_at_boot head.drives place))) (range_with_len k n)))
+      → AreStanding (onto p (flat_map (found_at head) (range_with_len k n)))
   range_standing p k zero was = was
   range_standing p k (suc n) was =
       let acts : List Act = found_acts k (option_and_then (identity_of head.drives) (drive_at_boot head.drives k)) in
-      subst AreStanding (sym (onto_append p acts (flat_map (λ place. found_acts place (option_and_then (identity_of head.drives) (drive_at_boot head.drives place))) (range_with_len (k + 1) n))))
+      subst AreStanding (sym (onto_append p acts (flat_map (found_at head) (range_with_len (k + 1) n))))
       (range_standing (onto p acts) (k + 1) n (found_standing p k (option_and_then (identity_of head.drives) (drive_at_boot head.drives k)) refl was))
 
   or_nothing_tied : (acts : List Act) → AreTied (tie head (onto (Entered 0 ByBoot 0 Boot ∷ []) acts)) → AreTied (tie head (onto (Entered 0 ByBoot 0 Boot ∷ []) (or_nothing acts)))
@@ -335,7 +335,7 @@ module _ (head : PortHead) where
   boot_tied : AreTied (tie head (grown [] (boot_entry head)))
   boot_tied =
       let start : List Event = Entered 0 ByBoot 0 Boot ∷ [] in
-      let acts : List Act = flat_map (λ place. found_acts place (option_and_then (identity_of head.drives) (drive_at_boot head.drives place))) (places_of head) in
+      let acts : List Act = flat_map (found_at head) (places_of head) in
       let same : plant head (onto start acts) ≡ plant head [] = plant_left head start acts (all_booted is_idle_row head (λ p i. refl) (λ p w. refl) (λ p o. refl)) in
       or_nothing_tied acts (λ x there cut.
       let few : x < 15 = omega (arith, true_within (attached (onto start acts)) x there, length_attached (onto start acts)) in

@@ -25,14 +25,14 @@ use Rattle.port_past.specs.Attachment.{detachments}
 use Rattle.port_past.specs.Drives.{drives, drive_at}
 use Rattle.port_past.specs.Completions.{completions}
 use Rattle.port_past.specs.PortState.{is_frozen, is_asked}
-use Rattle.port_past.specs.Heads.{identity_of, drive_at_boot, places_of}
+use Rattle.port_past.specs.Heads.{places_of}
 use Rattle.port_past.specs.Issues.{issue_count}
 use Rattle.port_past.specs.Judged.{judged}
 use Rattle.port_past.specs.Line.{is_irq_served}
 use Rattle.port_past.specs.Links.{links, linked_at}
 use Rattle.port_past.specs.Slots.{slots}
 use Rattle.port_rules.specs.Autopsy.{examined_acts}
-use Rattle.port_rules.specs.Boot.{found_acts, boot_acts, boot_entry}
+use Rattle.port_rules.specs.Boot.{found_at, boot_acts, boot_entry}
 use Rattle.port_rules.specs.Finish.{finishes}
 use Rattle.port_rules.specs.Sorting.{ok_answers, condemnations}
 use Rattle.port_rules.specs.Interrupt.{served_acts, irq_acts, must_freeze, must_request, no_kinds, has_failed}
@@ -341,7 +341,7 @@ module _ (head : PortHead) (past : List Event) (who : Who) (seq : ℕ) (was : Al
 
 module _ (head : PortHead) where
   abbrev found : List Act
-  found = flat_map (λ place. found_acts place (option_and_then (identity_of head.drives) (drive_at_boot head.drives place))) (places_of head)
+  found = flat_map (found_at head) (places_of head)
 
   pub boot_kind :
       (kind : Act → Bool) → kind Nothing ≡ true → ((place : ℕ) (i : Identity) → kind (Identified place i.model i.serial i.sectors i.depth) ≡ true)

@@ -22,7 +22,7 @@ use Rattle.port_past.specs.PortState.{is_frozen, is_running}
 use Rattle.port_past.specs.Heads.{identity_of, drive_at_boot, places_of}
 use Rattle.port_past.specs.Slots.{slots}
 use Rattle.port_past.specs.Tasks.{tasks}
-use Rattle.port_rules.specs.Boot.{found_acts, boot_acts, boot_entry}
+use Rattle.port_rules.specs.Boot.{found_acts, found_at, boot_acts, boot_entry}
 use Rattle.port_rules.specs.Legal.{entry_after, AreLegal, HasLegalActs, IsLegal}
 use Rattle.port_stands.proofs.Autopsies.{flat_range}
 use Rattle.port_stands.proofs.Blocks.{all_wider, left_alone}
@@ -106,9 +106,9 @@ pub all_booted :
     → ((place : ℕ) (i : Identity) → kind (Identified place i.model i.serial i.sectors i.depth) ≡ true)
     → ((place : ℕ) → place < head.places → kind (Attached place) ≡ true)
     → ((place : ℕ) (on : Bool) → kind (Mode place 6 on true) ≡ true)
-    → list_all kind (flat_map (λ place. found_acts place (option_and_then (identity_of head.drives) (drive_at_boot head.drives place))) (places_of head)) ≡ true
+    → list_all kind (flat_map (found_at head) (places_of head)) ≡ true
 all_booted kind head identified attached mode =
-    flat_range kind (λ place. found_acts place (option_and_then (identity_of head.drives) (drive_at_boot head.drives place))) 0 head.places
+    flat_range kind (found_at head) 0 head.places
     (λ x low high. found_all kind x (option_and_then (identity_of head.drives) (drive_at_boot head.drives x)) (identified x) (attached x (omega (arith, high))) (mode x))
 
 module _ (head : PortHead) where
@@ -168,7 +168,7 @@ module _ (head : PortHead) where
   -- what stands stands after the boot
   pub boot_stands : Stands head (grown [] (boot_entry head))
   boot_stands =
-      let acts : List Act = flat_map (λ place. found_acts place (option_and_then (identity_of head.drives) (drive_at_boot head.drives place))) (places_of head) in
+      let acts : List Act = flat_map (found_at head) (places_of head) in
       plain_stands head [] 0 ByBoot 0 Boot nothing_stands (boot_acts head)
       (record {
         issues = all_or_nothing is_no_issue acts refl (all_booted is_no_issue head (λ p i. refl) (λ p w. refl) (λ p o. refl));

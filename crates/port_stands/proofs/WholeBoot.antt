@@ -1,5 +1,5 @@
 -- All stands after the boot, and of every legal journal of a direct port.
-use Rattle.std.proofs.Common.{◌≡◌, ◌∙◌, ℕ, ◌+◌, Bool, true, false, ◌==◌, List, [], ◌∷◌, Option, None, Some, ◌⊎◌, inl, inr, suc, zero, map, flat_map, get_or, slice_get, option_and_then, refl, sym, ap, subst, arith, ◌&&◌}
+use Rattle.std.proofs.Common.{◌≡◌, ◌∙◌, ℕ, ◌+◌, Bool, true, false, ◌==◌, List, [], ◌∷◌, Option, None, Some, ◌⊎◌, inl, inr, suc, zero, map, flat_map, get_or, slice_get, refl, sym, ap, subst, arith, ◌&&◌}
 use Rattle.std.specs.Prelude.{slice_index_or}
 use Rattle.std.specs.List.{range_with_len}
 use Rattle.std.specs.Option.{option_map_or}
@@ -19,10 +19,10 @@ use Rattle.drive_model.specs.FreshAndReset.{fresh}
 use Rattle.drive_model.specs.View.{DriveView}
 use Rattle.host_tags.specs.Slots.{flight_at}
 use Rattle.link_model.specs.LinkView.{LinkView, empty_link}
-use Rattle.port_past.specs.Heads.{stands_at, identity_of, drive_at_boot, places_of}
+use Rattle.port_past.specs.Heads.{stands_at, drive_at_boot, places_of}
 use Rattle.port_past.specs.Links.{link_at, plugged_at, link_at_boot}
 use Rattle.eh_autopsy.specs.declared.failed_issue.FailedIssue.{FailedIssue}
-use Rattle.port_rules.specs.Boot.{found_acts, boot_acts, boot_entry}
+use Rattle.port_rules.specs.Boot.{found_at, boot_acts, boot_entry}
 use Rattle.port_rules.specs.Legal.{entry_after, AreLegal, HasLegalActs, IsLegal}
 use Rattle.port_rules.specs.Told.{or_nothing}
 use Rattle.port_stands.proofs.Blocks.{left_alone}
@@ -105,7 +105,7 @@ module _ (head : PortHead) where
   }
 
   abbrev found : List Act
-  found = flat_map (λ place. found_acts place (option_and_then (identity_of head.drives) (drive_at_boot head.drives place))) (places_of head)
+  found = flat_map (found_at head) (places_of head)
 
   nothing_sight : (p : List Event) (acts : List Act) → handling head (onto p (or_nothing acts)) ≡ handling head (onto p acts)
   nothing_sight p [] = refl
