@@ -24,9 +24,9 @@ use Rattle.port_rules.specs.Interrupt.{is_struck, must_freeze, served_from}
 use Rattle.port_rules.specs.Legal.{entry_after}
 use Rattle.port_rules.specs.Sorting.{condemnations}
 use Rattle.port_rules.specs.Told.{or_nothing}
-use Rattle.port_steps.specs.Adds.{Adds}
+use Rattle.port_telling.specs.Adds.{Adds}
 use Rattle.port_steps.specs.Taken.{asks}
-use Rattle.port_steps.specs.Walks.{slots_in, completions_in}
+use Rattle.port_telling.specs.Walks.{slots_in, completions_in}
 use Rattle.port_steps.specs.declared.taken.Taken.{Taken}
 
 -- ---- without a cause no issue is condemned

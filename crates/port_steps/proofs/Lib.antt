@@ -1,7 +1,4 @@
-pub mod AddLemmas
-pub mod BeginLemmas
+pub mod DispatchLemmas
 pub mod FoundLemmas
 pub mod IrqLemmas
 pub mod OutlineLemmas
-pub mod TimeLemmas
-pub mod WalkLemmas

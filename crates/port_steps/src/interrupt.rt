@@ -7,16 +7,15 @@ ghost use Rattle.port_rules.specs.Interrupt.{is_struck, no_kinds, served_from};
 ghost use Rattle.port_rules.specs.Legal.{entry_after};
 ghost use Rattle.port_rules.specs.Sorting.{condemnations};
 ghost use Rattle.port_rules.specs.Told.{or_nothing};
-ghost use Rattle.port_steps.specs.Adds.{Adds};
+ghost use Rattle.port_telling.specs.Adds.{Adds};
 ghost use Rattle.port_steps.specs.Taken.{asks};
-ghost use Rattle.port_steps.specs.Walks.{completions_in, slots_in};
+ghost use Rattle.port_telling.specs.Walks.{completions_in, slots_in};
 
 use crate::taken::{Taken, asks, standing};
-use crate::tell::{freeze_if, is_more, request_if};
-use crate::walks::{answer_all, condemn_all};
 use ata_base::Kinds;
 use ata_trace::{Act, Step, Who};
 use port_ledger::Ledger;
+use port_telling::{answer_all, condemn_all, freeze_if, is_more, request_if};
 
 /// Makes the entry of an interrupt. The causes are asked before it begins, since its beginning takes them.
 pub fn irq(ledger: &mut Ledger, who: Who, seq: u64)
@@ -36,7 +35,7 @@ pub fn irq(ledger: &mut Ledger, who: Who, seq: u64)
 }
 
 /// An interrupt is served, and there may be nothing to do.
-#[tactic(auto, using(crate::proofs::AddLemmas::or_nothing_some, crate::proofs::AddLemmas::or_nothing_none))]
+#[tactic(auto, using(port_telling::proofs::AddLemmas::or_nothing_some, port_telling::proofs::AddLemmas::or_nothing_none))]
 fn serve_or_nothing(ledger: &mut Ledger, taken: &Taken)
     requires room { 67 ≤ ledger.old.room }
     ensures { Adds ledger.old ledger.new

@@ -7,7 +7,7 @@ ghost use Rattle.port_ledger.specs.Commands.{CanServe};
 ghost use Rattle.port_ledger.specs.LedgerView.{past};
 ghost use Rattle.port_rules.specs.Kick.{command_acts, deferred_or_issued, frame_port, front_acts, is_for_port, is_queued, issued_acts, kick_acts, tag_named};
 ghost use Rattle.port_rules.specs.Told.{told_if};
-ghost use Rattle.port_steps.specs.Adds.{Adds};
+ghost use Rattle.port_telling.specs.Adds.{Adds};
 
 use crate::deferral::may_issue;
 use ata_base::{Cmd, Deferral, IssueNo, Ms, Op, Place, Tag};
@@ -67,7 +67,7 @@ fn issue_or_defer(ledger: &mut Ledger, cmd: &Cmd, queued: bool)
 }
 
 /// A command is deferred for this reason, and its place waits for the port where no other does.
-#[tactic(auto, using(crate::proofs::AddLemmas::adds_act, crate::proofs::AddLemmas::adds_more))]
+#[tactic(auto, using(port_telling::proofs::AddLemmas::adds_act, port_telling::proofs::AddLemmas::adds_more))]
 fn defer(ledger: &mut Ledger, cmd: &Cmd, queued: bool, why: Deferral)
     requires room { 2 ≤ ledger.old.room }
     ensures { Adds ledger.old ledger.new (deferred_or_issued ledger.old.head (past ledger.old) cmd.now queued (Some why)) }

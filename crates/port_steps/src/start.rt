@@ -1,19 +1,18 @@
-ghost use Rattle.std.specs.Prelude.{◌≡◌, ◌≤◌, ◌<◌, ◌+◌, Some, IfSome, flat_map, length, slice_get};
+ghost use Rattle.std.specs.Prelude.{◌≡◌, ◌≤◌, ◌<◌, ◌+◌, IfSome, flat_map, length};
 ghost use Rattle.ata_trace.specs.Event.{onto};
-ghost use Rattle.ata_trace.specs.declared.act.Act.TheVariants.{Identified};
 ghost use Rattle.port_ledger.specs.LedgerView.{past};
 ghost use Rattle.port_past.specs.Heads.{drive_at_boot, identity_of, places_of, stands_at};
-ghost use Rattle.port_rules.specs.Boot.{boot_acts, found_acts};
-ghost use Rattle.port_steps.specs.Adds.{Adds};
-ghost use Rattle.port_steps.specs.Found.{found_at};
+ghost use Rattle.port_rules.specs.Boot.{boot_acts, found_acts, found_at};
+ghost use Rattle.port_telling.specs.Adds.{Adds};
 
 use ata_base::Place;
 use ata_script::DriveHead;
-use ata_trace::{Act, ModelName, SerialName};
+use ata_trace::Act;
 use port_ledger::Ledger;
+use port_telling::{drive_of, identified};
 
 /// Each drive that stands at a place is identified, attached and given its mode, place after place.
-#[tactic(auto, using(crate::proofs::AddLemmas::or_nothing_some, crate::proofs::AddLemmas::or_nothing_none, crate::proofs::AddLemmas::adds_act))]
+#[tactic(auto, using(port_telling::proofs::AddLemmas::or_nothing_some, port_telling::proofs::AddLemmas::or_nothing_none, port_telling::proofs::AddLemmas::adds_act))]
 pub fn boot(ledger: &mut Ledger)
     requires room { 45 ≤ ledger.old.room }
     ensures past { past ledger.new ≡ onto (past ledger.old) (boot_acts ledger.old.head) }
@@ -66,7 +65,7 @@ fn stands_at(drive: &DriveHead, place: Place) -> bool
 }
 
 /// The drive of a number is identified at a place, attached and given its mode.
-#[tactic(auto, using(crate::proofs::AddLemmas::adds_act, crate::proofs::AddLemmas::adds_more))]
+#[tactic(auto, using(port_telling::proofs::AddLemmas::adds_act, port_telling::proofs::AddLemmas::adds_more))]
 fn find(ledger: &mut Ledger, place: Place, number: usize)
     requires room { 3 ≤ ledger.old.room }
     requires within { number < length ledger.old.head.drives }
@@ -84,45 +83,4 @@ fn find(ledger: &mut Ledger, place: Place, number: usize)
         ncq,
         dubious: true,
     });
-}
-
-/// The drive of a number.
-fn drive_of(drives: &[DriveHead], number: usize) -> &DriveHead
-    requires { number < length drives.now }
-    ensures { slice_get drives.now number ≡ Some result.now }
-{
-    &drives[number]
-}
-
-/// A drive is identified at a place.
-fn identified(place: Place, drive: &DriveHead) -> Act
-    ensures { result ≡ Identified place drive.now.identity.model drive.now.identity.serial drive.now.identity.sectors drive.now.identity.depth }
-{
-    Act::Identified {
-        place,
-        model: model_of(drive),
-        serial: serial_of(drive),
-        sectors: drive.identity.sectors,
-        depth: drive.identity.depth,
-    }
-}
-
-/// The model of a drive, as a journal tells it.
-fn model_of(drive: &DriveHead) -> ModelName
-    ensures { result ≡ drive.now.identity.model }
-{
-    match ModelName::new(&drive.identity.model) {
-        Some(name) => name,
-        None => unreachable!(),
-    }
-}
-
-/// The serial number of a drive, as a journal tells it.
-fn serial_of(drive: &DriveHead) -> SerialName
-    ensures { result ≡ drive.now.identity.serial }
-{
-    match SerialName::new(&drive.identity.serial) {
-        Some(name) => name,
-        None => unreachable!(),
-    }
 }

@@ -4,12 +4,15 @@ ghost use Rattle.port_ledger.specs.LedgerView.{past};
 ghost use Rattle.port_past.specs.Commands.{commands, is_accepted};
 ghost use Rattle.port_past.specs.Steps.{last_step};
 ghost use Rattle.port_rules.specs.Submit.{has_count, is_on_device, refusal_of, submit_acts};
-ghost use Rattle.port_steps.specs.Adds.{Adds};
+ghost use Rattle.port_telling.specs.Adds.{Adds};
 ghost use Rattle.port_steps.specs.Asked.{IsAskedFor};
 
 use ata_base::{CmdId, Op, Place};
 use ata_trace::{Act, Refusal};
 use port_ledger::Ledger;
+
+/// The most sectors that a command may ask for.
+const MOST_SECTORS: u16 = 16;
 
 /// A command is accepted, or refused for the first reason that holds.
 pub fn submit(ledger: &mut Ledger, id: CmdId, place: Place, op: &Op)
@@ -49,7 +52,7 @@ fn has_count(op: &Op) -> bool
 {
     match op {
         Op::Read { count, .. } | Op::Write { count, .. } | Op::Verify { count, .. } => {
-            *count >= 1 && *count <= 16
+            *count >= 1 && *count <= MOST_SECTORS
         }
         Op::Flush | Op::Power => true,
     }

@@ -3,12 +3,12 @@ ghost use Rattle.ata_trace.specs.declared.act.Act.TheVariants.{Done};
 ghost use Rattle.port_ledger.specs.LedgerView.{past};
 ghost use Rattle.port_rules.specs.Told.{raised_acts};
 ghost use Rattle.port_rules.specs.Work.{work_acts};
-ghost use Rattle.port_steps.specs.Adds.{Adds};
+ghost use Rattle.port_telling.specs.Adds.{Adds};
 
-use crate::line::raise;
 use ata_base::{IssueNo, Pick, Place, Regs};
 use ata_trace::Act;
 use port_ledger::Ledger;
+use port_telling::raise;
 
 /// The drive that is linked at a place ends the issue that it works on, and the line goes up.
 pub fn work(ledger: &mut Ledger, place: Place, pick: Pick)
@@ -34,7 +34,7 @@ pub fn work(ledger: &mut Ledger, place: Place, pick: Pick)
 }
 
 /// A drive ends an issue with these registers, and the line goes up.
-#[tactic(auto, using(crate::proofs::AddLemmas::adds_act, crate::proofs::AddLemmas::adds_more))]
+#[tactic(auto, using(port_telling::proofs::AddLemmas::adds_act, port_telling::proofs::AddLemmas::adds_more))]
 fn end(ledger: &mut Ledger, number: IssueNo, regs: &Regs)
     requires room { 2 ≤ ledger.old.room }
     requires low { regs.now.lba < 2 ^ 48 }

@@ -1,5 +1,5 @@
 use Rattle.port_rules.specs.Interrupt.{is_struck, no_kinds}
-use Rattle.port_steps.proofs.AddLemmas.{adds_more}
+use Rattle.port_telling.proofs.AddLemmas.{adds_more}
 use Rattle.port_steps.proofs.interrupt.serve.Goals as goal
 
 pub returns : goal.returns

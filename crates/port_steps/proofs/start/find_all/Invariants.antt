@@ -1,7 +1,7 @@
 use Rattle.std.specs.Prelude.{◌+◌, ◌*◌, ◌≤◌, flat_map}
 use Rattle.std.specs.List.{range_with_len}
-use Rattle.port_steps.specs.Adds.{Adds}
-use Rattle.port_steps.specs.Found.{found_at}
+use Rattle.port_telling.specs.Adds.{Adds}
+use Rattle.port_rules.specs.Boot.{found_at}
 use Rattle.port_steps.proofs.start.find_all.Given as goal
 
 abbrev pub invariant-loop-at : goal.invariant-loop-at

@@ -1,0 +1,11 @@
+pub mod BeginLemmas
+pub mod DriveIdentities
+pub mod FinishLemmas
+pub mod FirstLemmas
+pub mod IdentityLemmas
+pub mod JudgeLemmas
+pub mod LogLemmas
+pub mod PlaceLemmas
+pub mod RowLemmas
+pub mod SpeedLemmas
+pub mod TallyLemmas

@@ -1,0 +1,5 @@
+use Rattle.port_telling.proofs.AddLemmas.{adds_act, adds_more}
+use Rattle.port_recovery.proofs.autopsied.autopsy.Goals as goal
+
+pub returns : goal.returns
+returns c = adds_more c.examine_all.ensures.adds (adds_act c.note.ensures)
