@@ -23,7 +23,6 @@ journals_made : (left : Option (List ℕ)) (script : Script) (journals : List (L
 journals_made left script journals p = record {
   script = script;
   read = p.read.text;
-  built = p.read.built;
   made = p.made;
 }
 

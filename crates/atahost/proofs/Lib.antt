@@ -1,4 +1,2 @@
 mod JournalLemmas
-pub mod BuiltLemmas
 pub mod HeadlineLemmas
-pub mod RefusalLemmas

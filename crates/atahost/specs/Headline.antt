@@ -1,7 +1,7 @@
 use Rattle.std.specs.Prelude.{◌≡◌, ◌≤◌, ◌<◌, ℕ, List, Option, Some, IfSome, IsTrue, ⊤, length, take}
 use Rattle.std.specs.Io.KnownBytes.{Appends, IsAtEnd}
 use Rattle.ata_trace.specs.Entries.{EntryView}
-use Rattle.atahost.specs.Built.{refusal_of}
+use Rattle.ata_script.specs.Grammar.{fault_of}
 use Rattle.atahost.specs.Journals.{AreJournalsOf}
 use Rattle.atahost.specs.Statuses.{is_unprinted, read_faults_after, write_faults_after}
 use Rattle.atahost.specs.declared.status.Status.{Status}
@@ -37,10 +37,10 @@ pub record CutShort (left before after : Option (List ℕ)) : Type 0 where
   pub part : count ≤ length (texts_of journals)
   pub written : Appends before after (take count (texts_of journals))
 
--- at most the most bytes of a script, which aren't played for this line and rule
+-- at most the most bytes of a script, whose first fault is at this line by this rule
 pub record IsRefused (line rule : ℕ) (bytes : List ℕ) : Type 0 where
   pub within : length bytes ≤ most_bytes
-  pub refusal : refusal_of bytes ≡ Some (line, rule)
+  pub fault : fault_of bytes ≡ Some (line, rule)
 
 -- more than the most bytes of a script
 abbrev pub IsTooLong : List ℕ → Type 0

@@ -2,13 +2,11 @@ use Rattle.std.specs.Prelude.{◌≡◌, ℕ, List}
 use Rattle.ata_script.specs.Scripts.{IsScript}
 use Rattle.ata_script.specs.declared.script.Script.{Script}
 use Rattle.ata_trace.specs.Entries.{EntryView}
-use Rattle.atahost.specs.Built.{IsBuilt}
 use Rattle.port_core.specs.Weave.{journals_of}
 
--- the bytes are a script that is built, and these are the journals of its ports in their order, each the one
--- that its steps at the port make
+-- the bytes are a script, and these are the journals of its ports in their order, each the one that its steps at the
+-- port make
 pub record AreJournalsOf (bytes : List ℕ) (journals : List (List EntryView)) : Type 0 where
   pub script : Script
   pub read : IsScript bytes script
-  pub built : IsBuilt script
   pub made : journals ≡ journals_of script.head script.steps

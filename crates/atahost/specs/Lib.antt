@@ -1,4 +1,3 @@
-pub mod Built
 pub mod Headline
 pub mod Journals
 pub mod Printing

@@ -2,18 +2,16 @@ use Rattle.std.specs.Prelude.{◌≡◌, ◌≤◌, ℕ, List, Option, IfSome, �
 use Rattle.std.specs.Io.KnownBytes.{IsAtEnd}
 use Rattle.ata_script.specs.Scripts.{IsScript}
 use Rattle.ata_script.specs.declared.script.Script.{Script}
-use Rattle.atahost.specs.Built.{IsBuilt}
 use Rattle.atahost.specs.Headline.{IsRefused, IsTooLong, most_bytes}
 use Rattle.atahost.specs.declared.status.Status.{Status}
 use Rattle.atahost.specs.declared.status.Status.TheVariants.{BadScript, TooLong, ReadFault, OutOfMemory}
 
--- what was left to read is this script, of at most the most bytes, and it is built
+-- what was left to read is this script, of at most the most bytes
 pub record WasRead (left : Option (List ℕ)) (script : Script) : Type 0 where
   pub bytes : List ℕ
   pub all : IfSome left (λ all. all ≡ bytes)
   pub within : length bytes ≤ most_bytes
   pub text : IsScript bytes script
-  pub built : IsBuilt script
 
 -- why no script was read, by what was left to read and is left now: each status with its cause
 abbrev pub Refuses : Option (List ℕ) → Option (List ℕ) → Status → Type 0

@@ -1,7 +1,9 @@
-use crate::built::is_built;
 use ata_base::PortNo;
 use ata_script::read;
 use host_core::{boot, replay};
+use port_core::Host;
+use std::alloc::Global;
+use std::process::Abort;
 use std::test::Fail;
 
 // Two ports and a spare drive; actor 1 submits at port 1, and actor 0 at port 0, where no drive stands.
@@ -15,19 +17,20 @@ drive 1 0 0 BETA S2 4096 0 3 0
 1 0 irq
 ";
 
-#[tactic(auto, using(crate::proofs::BuiltLemmas::script_built))]
-#[test]
-fn a_host_is_booted_and_replayed(rt: HostRuntime) -> Result<(), Fail> {
-    let alloc = rt.alloc();
+// The host of this script after its boot, and after its steps.
+fn hosts_of(rt: &impl Abort, alloc: Global) -> Result<(Host, Host), Fail> {
     let script = match read(alloc, SCRIPT.as_bytes()) {
         Ok(script) => script,
         Err(_) => panic!(rt; "the script wasn't read"),
     };
-    if !is_built(&script) {
-        panic!(rt; "the script isn't built");
-    }
     let booted = boot(alloc, &script)?;
     let host = replay(alloc, &script)?;
+    Ok((booted, host))
+}
+
+#[test]
+fn a_host_is_booted_and_replayed(rt: HostRuntime) -> Result<(), Fail> {
+    let (booted, host) = hosts_of(&rt, rt.alloc())?;
     for (number, entries) in [(0, 3), (1, 2)] {
         let number = PortNo::at(number);
         let before = booted.port(number).expect(&rt, "a port");

@@ -3,7 +3,6 @@
 //! error tells it too.
 #![tactic(auto)]
 
-mod built;
 mod laws;
 mod replay;
 mod status;
@@ -54,7 +53,5 @@ fn run(rt: &HostRuntime, words: &[String]) -> Status {
 
 #[cfg(test)]
 mod host_tests;
-#[cfg(test)]
-mod steps_tests;
 #[cfg(test)]
 mod tests;

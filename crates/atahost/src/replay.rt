@@ -7,7 +7,6 @@ ghost use Rattle.atahost.specs.Statuses.{read_faults_after, write_faults_after};
 ghost use Rattle.port_core.specs.Hosts.{journals_in, lives_of};
 ghost use Rattle.port_core.specs.Text.{texts_of};
 
-use crate::built::is_built;
 use crate::status::Status;
 use ata_io::{ReadError, Sink, Source, read_all};
 use ata_script::{Script, ScriptError, read};
@@ -21,12 +20,10 @@ const MOST_BYTES: usize = 4_194_304;
 /// Replays the script that `source` gives, and writes the journals of its ports to `sink`, in their order.
 /// The rounds of settling have no effect yet. `Done` and `Left` come where all was read and printed, `Left`
 /// exactly where commands are live after the last step; `BadScript` where the bytes, read to their end,
-/// aren't played: with the line and rule of their first fault, or with line and rule 0 where they are a
-/// script that isn't built; `TooLong` exactly where more than
+/// aren't a script, with the line and rule of their first fault; `TooLong` exactly where more than
 /// 4,194,304 bytes came before a read failed or memory was wanted; `ReadFault` and `WriteFault` where a
 /// read or a write failed, and no failed one is passed over. Want of memory comes before the first line
 /// is written, or not at all.
-#[tactic(auto, using(crate::proofs::BuiltLemmas::script_built))]
 pub fn replay_all<S: Source, K: Sink>(
     alloc: Global,
     source: &mut S,
@@ -47,7 +44,6 @@ pub fn replay_all<S: Source, K: Sink>(
 }
 
 // Reads the script, to the end of the source.
-#[tactic(auto, using(crate::proofs::RefusalLemmas::refused_fault, crate::proofs::RefusalLemmas::refused_unbuilt))]
 fn read_script<S: Source>(alloc: Global, source: &mut S) -> Result<Script, Status>
     ensures script { IfOk result (λ script. WasRead (S.left source.old) script) }
     ensures all_read { OnOk result (IsAtEnd (S.left source.new)) }
@@ -63,8 +59,7 @@ fn read_script<S: Source>(alloc: Global, source: &mut S) -> Result<Script, Statu
         Err(ReadError::Memory) => return Err(Status::OutOfMemory),
     };
     match read(alloc, &bytes) {
-        Ok(script) if is_built(&script) => Ok(script),
-        Ok(_) => Err(Status::BadScript { line: 0, rule: 0 }),
+        Ok(script) => Ok(script),
         Err(ScriptError::Fault { line, rule }) => Err(Status::BadScript { line, rule }),
         Err(ScriptError::Memory) => Err(Status::OutOfMemory),
     }

@@ -12,8 +12,8 @@ pub enum Status {
     Usage,
     /// All is printed, and `k` commands, at least 1, are live.
     Left { k: u32 },
-    /// The bytes, read to their end, aren't played: the line, from 1 on, and the rule of their first
-    /// fault; or 0 and 0 where they are a script with a form that isn't built.
+    /// The bytes, read to their end, aren't a script: the line, from 1 on, and the rule of their first
+    /// fault.
     BadScript { line: u32, rule: u8 },
     /// More bytes came than a script may have.
     TooLong,

@@ -63,12 +63,7 @@ fn each_status_comes(rt: HostRuntime) -> Result<(), Fail> {
             99,
             Status::BadScript { line: 4, rule: 2 },
         ),
-        (
-            "replay",
-            "0 0 tick 5\n",
-            99,
-            Status::BadScript { line: 0, rule: 0 },
-        ),
+        ("replay", "0 0 tick 5\n", 99, Status::Done),
         ("replay", "0 0 stray 3\n", 99, Status::Done),
         ("replay", "", 1, Status::ReadFault),
     ] {

@@ -1,3 +1,2 @@
-pub mod BuiltSteps
 pub mod FewPorts
 pub mod TakenSteps

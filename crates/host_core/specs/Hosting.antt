@@ -1,18 +1,9 @@
-use Rattle.std.specs.Prelude.{◌≡◌, ◌<◌, ◌+◌, ◌*◌, ℕ, List, All, IfSome, length, slice_get, slice_index}
+use Rattle.std.specs.Prelude.{◌≡◌, ◌<◌, ◌+◌, ◌*◌, ℕ, List, length, slice_index}
 use Rattle.ata_script.specs.declared.port_head.PortHead.{PortHead}
 use Rattle.ata_trace.specs.declared.step.Step.{Step}
 use Rattle.port_core.specs.Hosts.{heads_in, journals_in}
 use Rattle.port_core.specs.PortView.{PortView}
 use Rattle.port_core.specs.Weave.{count_of, journals_of, steps_at}
-use Rattle.port_rules.specs.Built.{IsBuilt}
-
--- a step is built at its port
-abbrev pub IsBuiltAt : List PortHead → ℕ × ℕ × Step → Type 0
-IsBuiltAt heads taken = IfSome (slice_get heads taken.1) (λ head. IsBuilt head taken.2)
-
--- each step is built at its port
-abbrev pub AreBuilt : List PortHead → List (ℕ × ℕ × Step) → Type 0
-AreBuilt heads steps = All (IsBuiltAt heads) steps
 
 -- a port for each head, at which these steps were taken
 pub record IsHostOf (heads : List PortHead) (steps : List (ℕ × ℕ × Step)) (ports : List PortView) : Type 0 where

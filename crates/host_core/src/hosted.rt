@@ -1,7 +1,6 @@
-ghost use Rattle.std.specs.Prelude.{◌≡◌, ◌≤◌, [], length, slice_get, IfOk, IfSome, OnOk};
+ghost use Rattle.std.specs.Prelude.{◌≡◌, ◌≤◌, [], length, IfOk, OnOk};
 ghost use Rattle.ata_trace.specs.declared.who.Who.TheVariants.{Actor};
-ghost use Rattle.host_core.specs.Hosting.{AreBuilt, IsHostOf};
-ghost use Rattle.port_rules.specs.Built.{IsBuilt};
+ghost use Rattle.host_core.specs.Hosting.{IsHostOf};
 ghost use Rattle.port_core.specs.Hosts.{at_port, stepped, with_room};
 
 use crate::turns::Turns;
@@ -20,12 +19,11 @@ pub fn boot(alloc: Global, script: &Script) -> Result<Host, OutOfMemory>
     started(alloc, script.head.items())
 }
 
-/// All ports of a script after its steps, which are built: each took those at its number in the order of their lines, for
+/// All ports of a script after its steps: each took those at its number in the order of their lines, for
 /// their actors, of whom each has its steps at that port numbered from 0. Ports aren't settled. Where
 /// memory is wanted there is no host.
 #[tactic(auto, using(crate::proofs::FewPorts::few_ports))]
 pub fn replay(alloc: Global, script: &Script) -> Result<Host, OutOfMemory>
-    requires { AreBuilt script.now.head script.now.steps }
     ensures { IfOk result (λ host. IsHostOf script.now.head script.now.steps host) }
 {
     hosted(alloc, script.head.items(), script.steps.items())
@@ -53,8 +51,7 @@ fn hosted(
     heads: &[PortHead],
     steps: &[(ActorNo, PortNo, Step)],
 ) -> Result<Host, OutOfMemory>
-    requires few { length heads.now ≤ 8 }
-    requires built { AreBuilt heads.now steps.now }
+    requires { length heads.now ≤ 8 }
     ensures { IfOk result (λ host. IsHostOf heads.now steps.now host) }
 {
     let mut host = started(alloc, heads)?;
@@ -67,7 +64,7 @@ fn hosted(
 }
 
 // The port of this number takes the `seq`-th step of an actor.
-#[tactic(auto, using(crate::proofs::TakenSteps::room_made, crate::proofs::BuiltSteps::built_with_room))]
+#[tactic(auto, using(crate::proofs::TakenSteps::room_made))]
 fn take(
     host: &mut Host,
     number: PortNo,
@@ -75,7 +72,6 @@ fn take(
     seq: u64,
     step: &Step,
 ) -> Result<(), OutOfMemory>
-    requires { IfSome (slice_get host.old number) (λ port. IsBuilt port.head step.now) }
     ensures { OnOk result (host.new ≡ at_port number (stepped (Actor actor) seq step.now) (at_port number with_room host.old)) }
 {
     host.reserve(number)?;

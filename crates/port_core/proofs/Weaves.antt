@@ -11,9 +11,9 @@ use Rattle.ata_trace.specs.declared.step.Step.{Step}
 use Rattle.ata_trace.specs.declared.who.Who.TheVariants.{Actor}
 use Rattle.port_rules.specs.Boot.{boot_entry}
 use Rattle.port_rules.specs.Legal.{entry_after, AreLegal, HasLegalActs, IsLegal}
-use Rattle.port_rules.specs.Run.{StepCall, run, run_from}
+use Rattle.port_rules.specs.Run.{StepCall, numbered, run, run_from}
 use Rattle.port_core.proofs.Growing.{runs_are_legal}
-use Rattle.port_core.specs.Weave.{AreLegalFor, AreScriptCalls, AreScriptSteps, IsInLineOrder, IsOfScript, IsScriptCall, asked_after_boot, asked_at, asked_by, asked_in, count_of, in_turn, journals_from, numbered, steps_at, steps_of}
+use Rattle.port_core.specs.Weave.{AreLegalFor, AreScriptCalls, AreScriptSteps, IsInLineOrder, IsOfScript, IsScriptCall, asked_after_boot, asked_at, asked_by, asked_in, count_of, in_turn, journals_from, steps_at, steps_of}
 
 -- a step behind others, numbered
 abbrev pub asked_next : List (ℕ × Step) → ℕ × Step → StepCall

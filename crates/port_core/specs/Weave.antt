@@ -65,11 +65,6 @@ abbrev pub steps_of : ℕ → List (ℕ × Step) → List Step
 steps_of actor [] = []
 steps_of actor (taken ∷ rest) = if taken.0 == actor then taken.1 ∷ steps_of actor rest else steps_of actor rest
 
--- these steps of one account, numbered on from here
-abbrev pub numbered : Who → ℕ → List Step → List StepCall
-numbered who seq [] = []
-numbered who seq (step ∷ rest) = record { who = who; seq = seq; step = step } ∷ numbered who (seq + 1) rest
-
 -- whether that is this actor
 abbrev pub is_actor : ℕ → Who → Bool
 is_actor actor (Actor other) = other == actor

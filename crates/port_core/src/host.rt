@@ -1,6 +1,5 @@
 ghost use Rattle.std.specs.Prelude.{◌≡◌, ◌≤◌, ◌++◌, ◌∷◌, [], length, slice_get, IfSome, OnOk, OnErr};
 ghost use Rattle.std.specs.Option.{option_copied};
-ghost use Rattle.port_rules.specs.Built.{IsBuilt};
 ghost use Rattle.port_core.specs.Hosts.{AreNumbered, at_port, journals_in, lives_of, stepped, with_room};
 
 use crate::port::Port;
@@ -66,12 +65,11 @@ impl Host {
         }
     }
 
-    /// The port of this number takes a step that is built, the `seq`-th of `who`; where there is none, nothing does.
+    /// The port of this number takes a step, the `seq`-th of `who`; where there is none, nothing does.
     /// All other ports stay. It always succeeds, and takes no memory.
     #[tactic(auto, using(crate::proofs::Hosts::changed_past, crate::proofs::Hosts::port_stepped))]
     pub fn step(&mut self, number: PortNo, who: Who, seq: u64, step: &Step)
-        requires spare { IfSome (slice_get self.old number) (λ port. port.spare ≡ 1) }
-        requires built { IfSome (slice_get self.old number) (λ port. IsBuilt port.head step.now) }
+        requires { IfSome (slice_get self.old number) (λ port. port.spare ≡ 1) }
         ensures { self.new ≡ at_port number (stepped who seq step.now) self.old }
     {
         let place = number.get() as usize;

@@ -2,12 +2,13 @@ ghost use Rattle.std.specs.Prelude.{◌≡◌, ℕ, List};
 ghost use Rattle.ata_script.specs.Scripts.{IsScript};
 ghost use Rattle.ata_script.specs.declared.port_head.PortHead.{PortHead};
 ghost use Rattle.ata_script.specs.declared.script.Script.{Script};
-ghost use Rattle.ata_trace.specs.Entries.{EntryView};
+ghost use Rattle.ata_trace.specs.Entries.{EntryView, past_of};
 ghost use Rattle.ata_trace.specs.declared.step.Step.{Step};
 ghost use Rattle.ata_trace.specs.declared.who.Who.TheVariants.{Actor};
+ghost use Rattle.port_recovery.specs.Recoverable.{IsRecoverable};
 ghost use Rattle.port_rules.specs.Legal.{IsLegal};
-ghost use Rattle.port_rules.specs.Run.{StepCall, run};
-ghost use Rattle.port_core.specs.Weave.{AreLegalFor, AreScriptCalls, AreScriptSteps, IsInLineOrder, asked_at, asked_by, journals_of, numbered, steps_at, steps_of};
+ghost use Rattle.port_rules.specs.Run.{StepCall, numbered, run};
+ghost use Rattle.port_core.specs.Weave.{AreLegalFor, AreScriptCalls, AreScriptSteps, IsInLineOrder, asked_at, asked_by, journals_of, steps_at, steps_of};
 
 /// The law that the journal which steps make is legal, whatever the steps that a script can have: so each law of
 /// the legal journals holds of it. It does nothing.
@@ -37,4 +38,10 @@ pub fn one_in_line_order()
 pub fn actors_in_turn()
     ensures { (port actor : ℕ) → (steps : List (ℕ × ℕ × Step))
         → asked_by actor (asked_at port steps) ≡ numbered (Actor actor) 0 (steps_of actor (steps_at port steps)) }
+{}
+
+/// The law that recovery can work on the past of each legal journal: no command has two issues in flight, what a drive holds
+/// it holds once and is in flight, and the tries of resets and identities fit into a byte. It does nothing.
+pub fn legal_pasts_are_recoverable()
+    ensures { (head : PortHead) → (entries : List EntryView) → IsLegal head entries → IsRecoverable head (past_of entries) }
 {}

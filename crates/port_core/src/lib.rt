@@ -9,6 +9,9 @@ mod ranges;
 mod text;
 
 pub use host::Host;
-pub use laws::{actors_in_turn, one_in_line_order, runs_are_legal, script_journals_are_legal};
+pub use laws::{
+    actors_in_turn, legal_pasts_are_recoverable, one_in_line_order, runs_are_legal,
+    script_journals_are_legal,
+};
 pub use port::Port;
 pub use text::{put_host, put_port};

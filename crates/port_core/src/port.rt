@@ -14,7 +14,6 @@ ghost use Rattle.port_past.specs.Commands.{commands};
 ghost use Rattle.port_past.specs.Live.{live};
 ghost use Rattle.port_stands.specs.Silence.{IsSilentAfterAnswer};
 ghost use Rattle.port_rules.specs.Boot.{boot_entry};
-ghost use Rattle.port_rules.specs.Built.{IsBuilt};
 ghost use Rattle.port_rules.specs.Legal.{IsLegal, entry_after};
 ghost use Rattle.port_rules.specs.Ranges.{IsScriptStep};
 
@@ -72,10 +71,9 @@ impl Port {
         Ok(())
     }
 
-    /// Makes the entry of a step that is built, the `seq`-th of `who`. It always succeeds, and takes no memory.
+    /// Makes the entry of a step, the `seq`-th of `who`. It always succeeds, and takes no memory.
     pub fn step(&mut self, who: Who, seq: u64, step: &Step)
         requires spare { self.old.spare ≡ 1 }
-        requires built { IsBuilt self.old.head step.now }
         ensures number { self.new.number ≡ self.old.number }
         ensures head { self.new.head ≡ self.old.head }
         ensures entries { self.new.entries ≡ self.old.entries ++ entry_after self.old.head (past_of self.old.entries) who seq step.now ∷ [] }
@@ -166,7 +164,6 @@ fn booted(alloc: Global, head: PortHead) -> Result<Ledger, OutOfMemory>
 fn take(ledger: &mut Ledger, who: Who, seq: u64, step: &Step)
     requires begins { 0 < ledger.old.begins }
     requires room { 128 ≤ ledger.old.room }
-    requires built { IsBuilt ledger.old.head step.now }
     requires legal { IsLegal ledger.old.head ledger.old.entries }
     ensures entries { ledger.new.entries ≡ ledger.old.entries ++ entry_after ledger.old.head (past_of ledger.old.entries) who seq step.now ∷ [] }
     ensures legal { IsLegal ledger.new.head ledger.new.entries }

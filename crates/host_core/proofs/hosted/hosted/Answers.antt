@@ -1,5 +1,4 @@
 use Rattle.std.proofs.Common.{rules}
-use Rattle.host_core.proofs.BuiltSteps.{next_built}
 use Rattle.host_core.proofs.TakenSteps.{replayed_none, replayed_more, replayed_all, turn_small}
 use Rattle.host_core.proofs.hosted.hosted.Goals as goal
 
@@ -8,11 +7,6 @@ loop-taken-init c = replayed_none _ _ _ _ c.in_ok-host.ensures c.new-turns.ensur
 
 pub next-seq-requires : goal.next-seq-requires
 next-seq-requires c there small = turn_small _ _ _ _ _ _ _ c.loop-taken.invariant c.loop-taken-test.true (search rules) there small
-
-pub take-requires : goal.take-requires
-take-requires c =
-    next_built c.args.heads.now c.args.steps.now c.loop-taken.taken-index c.loop-taken.host c.loop-taken.turns c.taken-item.result
-    c.loop-taken.invariant c.requires.built c.loop-taken-test.true c.taken-item.is
 
 pub loop-taken-preserved : goal.loop-taken-preserved
 loop-taken-preserved c =
