@@ -135,7 +135,8 @@ said_lines said good =
     ∙ ap (λ lines. record { text = version_line said.version; ended = true } ∷ lines)
     (ap lines_of (sym (items_on (port_items 0 said.ports) (step_items said.steps))) ∙ (reads_all said good).text)
 
-says_again : (said : DraftView) → Good said → Says (said_text said) said
+-- what stands in order, each item as its line says it, is what its text says
+pub says_again : (said : DraftView) → Good said → Says (said_text said) said
 says_again said good =
     let reads = reads_all said good in
     record {
