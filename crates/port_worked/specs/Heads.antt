@@ -106,3 +106,11 @@ two_switched = port 2 true true false (alpha 32 0 refl ∷ second (Some 1) ∷ [
 -- a multiplier with a drive at one of its two places, and a spare
 abbrev pub one_empty_place : PortHead
 one_empty_place = port 2 true false false (alpha 32 0 refl ∷ second None ∷ []) refl
+
+-- a multiplier with two unlike drives: one with a queue that is ready 12,000 ms after a reset, at generation 2, and one
+-- without a queue at generation 1
+abbrev pub unlike_places : PortHead
+unlike_places = port 2 true false false (
+    drive (Some 0) (codes "DISK-B") (codes "B1") 65536 32 2 12000 refl
+    ∷ drive (Some 1) (codes "DISK-C") (codes "C1") 65536 0 1 0 refl
+    ∷ []) refl

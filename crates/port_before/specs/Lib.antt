@@ -1,0 +1,2 @@
+pub mod BeforeDrain
+pub mod BeforeSwitching
