@@ -1,2 +1,6 @@
+pub mod CalmLemmas
 pub mod FewPorts
+pub mod SettleLemmas
+pub mod SettledPorts
 pub mod TakenSteps
+pub mod VersionLemmas

@@ -13,8 +13,8 @@ use Rattle.port_rules.specs.Run.{run}
 use Rattle.port_core.proofs.Weaves.{count_push, in_turn_push, run_push, steps_at_push}
 use Rattle.port_core.specs.Hosts.{at_port, heads_in, journals_in, stepped, with_room}
 use Rattle.port_core.specs.PortView.{PortView}
-use Rattle.port_core.specs.Weave.{asked_at, count_of, in_turn, journals_from, journals_of, steps_at}
-use Rattle.host_core.specs.Hosting.{AreCounted, IsHostOf}
+use Rattle.port_core.specs.Weave.{asked_at, count_of, in_turn, runs_from, runs_of, steps_at}
+use Rattle.host_core.specs.Hosting.{AreCounted, IsPlayed}
 
 -- the steps at a port, with one more that is there, or elsewhere
 steps_here : (number : ℕ) (steps : List (ℕ × ℕ × Step)) (taken : ℕ × ℕ × Step) → taken.1 ≡ number
@@ -136,53 +136,53 @@ entries_here number port steps taken seq at turn made =
 
 -- it changes no journal of a later port
 later_stay : (number : ℕ) (heads : List PortHead) (steps : List (ℕ × ℕ × Step)) (taken : ℕ × ℕ × Step) → taken.1 < number
-    → journals_from number heads (steps ++ taken ∷ []) ≡ journals_from number heads steps
+    → runs_from number heads (steps ++ taken ∷ []) ≡ runs_from number heads steps
 later_stay number [] steps taken before = refl
 later_stay number (head ∷ rest) steps taken before =
-    ap (λ asked. run head (in_turn [] asked) ∷ journals_from (number + 1) rest (steps ++ taken ∷ []))
+    ap (λ asked. run head (in_turn [] asked) ∷ runs_from (number + 1) rest (steps ++ taken ∷ []))
     (steps_elsewhere number steps taken (λ same. omega (arith, same, before)))
     ∙ ap (λ journals. run head (asked_at number steps) ∷ journals) (later_stay (number + 1) rest steps taken (omega (arith, before)))
 
 -- it changes the journal of its port, and no other
 journals_more : (number place : ℕ) (ports : List PortView) (steps : List (ℕ × ℕ × Step)) (taken : ℕ × ℕ × Step) (seq : ℕ)
-    → taken.1 ≡ number + place → seq ≡ count_of taken.0 (steps_at taken.1 steps) → journals_in ports ≡ journals_from number (heads_in ports) steps
-    → journals_in (at_port place (stepped (Actor taken.0) seq taken.2) ports) ≡ journals_from number (heads_in ports) (steps ++ taken ∷ [])
+    → taken.1 ≡ number + place → seq ≡ count_of taken.0 (steps_at taken.1 steps) → journals_in ports ≡ runs_from number (heads_in ports) steps
+    → journals_in (at_port place (stepped (Actor taken.0) seq taken.2) ports) ≡ runs_from number (heads_in ports) (steps ++ taken ∷ [])
 journals_more number zero [] steps taken seq at turn are = refl
 journals_more number (suc place) [] steps taken seq at turn are = refl
 journals_more number zero (port ∷ rest) steps taken seq at turn are =
     let made : port.entries ≡ run port.head (asked_at number steps) = cc in
-    let others : journals_in rest ≡ journals_from (number + 1) (heads_in rest) steps = cc in
+    let others : journals_in rest ≡ runs_from (number + 1) (heads_in rest) steps = cc in
     ap (λ entries. entries ∷ journals_in rest) (entries_here number port steps taken seq (omega (arith, at)) turn made)
     ∙ ap (λ journals. run port.head (asked_at number (steps ++ taken ∷ [])) ∷ journals)
     (others ∙ sym (later_stay (number + 1) (heads_in rest) steps taken (omega (arith, at))))
 journals_more number (suc place) (port ∷ rest) steps taken seq at turn are =
     let made : port.entries ≡ run port.head (asked_at number steps) = cc in
-    let others : journals_in rest ≡ journals_from (number + 1) (heads_in rest) steps = cc in
+    let others : journals_in rest ≡ runs_from (number + 1) (heads_in rest) steps = cc in
     ap (λ entries. entries ∷ journals_in (at_port place (stepped (Actor taken.0) seq taken.2) rest))
     (made ∙ ap (λ asked. run port.head (in_turn [] asked)) (sym (steps_elsewhere number steps taken (λ same. omega (arith, same, at)))))
     ∙ ap (λ journals. run port.head (asked_at number (steps ++ taken ∷ [])) ∷ journals) (journals_more (number + 1) place rest steps taken seq (omega (arith, at)) turn others)
 
 -- a host that took one step more
 host_step : (heads : List PortHead) (steps : List (ℕ × ℕ × Step)) (ports : List PortView) (taken : ℕ × ℕ × Step) (seq : ℕ)
-    → IsHostOf heads steps ports → seq ≡ count_of taken.0 (steps_at taken.1 steps)
-    → IsHostOf heads (steps ++ taken ∷ []) (at_port taken.1 (stepped (Actor taken.0) seq taken.2) (at_port taken.1 with_room ports))
+    → IsPlayed heads steps ports → seq ≡ count_of taken.0 (steps_at taken.1 steps)
+    → IsPlayed heads (steps ++ taken ∷ []) (at_port taken.1 (stepped (Actor taken.0) seq taken.2) (at_port taken.1 with_room ports))
 host_step heads steps ports taken seq host turn =
     let roomy = at_port taken.1 with_room ports in
     let same : heads_in roomy ≡ heads = heads_at taken.1 with_room ports (λ port. refl) ∙ host.same in
-    let journals : journals_in roomy ≡ journals_from 0 (heads_in roomy) steps = journals_room taken.1 ports ∙ host.journals ∙ ap (λ heads. journals_of heads steps) (sym same) in
+    let journals : journals_in roomy ≡ runs_from 0 (heads_in roomy) steps = journals_room taken.1 ports ∙ host.journals ∙ ap (λ heads. runs_of heads steps) (sym same) in
     record {
       same = heads_at taken.1 (stepped (Actor taken.0) seq taken.2) roomy (λ port. refl) ∙ same;
-      journals = journals_more 0 taken.1 roomy steps taken seq (omega arith) turn journals ∙ ap (λ heads. journals_of heads (steps ++ taken ∷ [])) same;
+      journals = journals_more 0 taken.1 roomy steps taken seq (omega arith) turn journals ∙ ap (λ heads. runs_of heads (steps ++ taken ∷ [])) same;
     }
 
 -- a host that took the first n steps
 pub record IsReplayed (heads : List PortHead) (steps : List (ℕ × ℕ × Step)) (n : ℕ) (ports : List PortView) (turns : List ℕ) : Type 0 where
-  pub host : IsHostOf heads (take n steps) ports
+  pub host : IsPlayed heads (take n steps) ports
   pub counts : AreCounted turns (take n steps)
 
 -- one that has booted took none
 pub replayed_none : (heads : List PortHead) (steps : List (ℕ × ℕ × Step)) (ports : List PortView) (turns : List ℕ)
-    → IsHostOf heads [] ports → turns ≡ replicate 256 0 → IsReplayed heads steps 0 ports turns
+    → IsPlayed heads [] ports → turns ≡ replicate 256 0 → IsReplayed heads steps 0 ports turns
 replayed_none heads steps ports turns booted none = record {
   host = booted;
   counts = subst (λ (turns : List ℕ). AreCounted turns []) (sym none) counted_none;
@@ -199,8 +199,8 @@ replayed_more heads steps n ports next turns more taken seq replayed within here
     let grown : take (n + 1) steps ≡ take n steps ++ taken ∷ [] = take_more steps n taken within ∙ ap (λ t. take n steps ++ t ∷ []) (sym here) in
     record {
       host =
-          subst (λ (steps : List (ℕ × ℕ × Step)). IsHostOf heads steps next) (sym grown)
-          (subst (IsHostOf heads (take n steps ++ taken ∷ [])) (sym made)
+          subst (λ (steps : List (ℕ × ℕ × Step)). IsPlayed heads steps next) (sym grown)
+          (subst (IsPlayed heads (take n steps ++ taken ∷ [])) (sym made)
           (host_step heads (take n steps) ports taken seq replayed.host (turn ∙ replayed.counts.each taken.1 taken.0 there actor)));
       counts =
           subst (λ (steps : List (ℕ × ℕ × Step)). AreCounted more steps) (sym grown)
@@ -209,8 +209,8 @@ replayed_more heads steps n ports next turns more taken seq replayed within here
 
 -- all steps were taken
 pub replayed_all : (heads : List PortHead) (steps : List (ℕ × ℕ × Step)) (n : ℕ) (ports : List PortView) (turns : List ℕ)
-    → IsReplayed heads steps n ports turns → length steps ≤ n → IsHostOf heads steps ports
-replayed_all heads steps n ports turns replayed all = subst (λ (steps : List (ℕ × ℕ × Step)). IsHostOf heads steps ports) (take_all n steps all) replayed.host
+    → IsReplayed heads steps n ports turns → length steps ≤ n → IsPlayed heads steps ports
+replayed_all heads steps n ports turns replayed all = subst (λ (steps : List (ℕ × ℕ × Step)). IsPlayed heads steps ports) (take_all n steps all) replayed.host
 
 -- an actor's count is small
 pub turn_small : (heads : List PortHead) (steps : List (ℕ × ℕ × Step)) (n : ℕ) (ports : List PortView) (turns : List ℕ) (port actor : ℕ)
@@ -225,21 +225,21 @@ turn_small heads steps n ports turns port actor replayed within all there small 
     )
 
 journals_push : (number : ℕ) (heads : List PortHead) (head : PortHead) (steps : List (ℕ × ℕ × Step))
-    → journals_from number (heads ++ head ∷ []) steps ≡ journals_from number heads steps ++ run head (asked_at (number + length heads) steps) ∷ []
+    → runs_from number (heads ++ head ∷ []) steps ≡ runs_from number heads steps ++ run head (asked_at (number + length heads) steps) ∷ []
 journals_push number [] head steps = ap (λ n. run head (asked_at n steps) ∷ []) (omega arith)
 journals_push number (first ∷ rest) head steps =
     ap (λ journals. run first (asked_at number steps) ∷ journals)
-    (journals_push (number + 1) rest head steps ∙ ap (λ n. journals_from (number + 1) rest steps ++ run head (asked_at n steps) ∷ []) (omega arith))
+    (journals_push (number + 1) rest head steps ∙ ap (λ n. runs_from (number + 1) rest steps ++ run head (asked_at n steps) ∷ []) (omega arith))
 
 -- a host has a port for each head
-pub host_count : (heads : List PortHead) (n : ℕ) (steps : List (ℕ × ℕ × Step)) (ports : List PortView) → n ≤ length heads → IsHostOf (take n heads) steps ports → length ports ≡ n
+pub host_count : (heads : List PortHead) (n : ℕ) (steps : List (ℕ × ℕ × Step)) (ports : List PortView) → n ≤ length heads → IsPlayed (take n heads) steps ports → length ports ≡ n
 host_count heads n steps ports within host = sym (length-map ports (λ port. port.head)) ∙ ap length host.same ∙ length-take-le n heads within
 
 -- a host with the next port
 pub host_more : (heads : List PortHead) (n : ℕ) (head : PortHead) (steps : List (ℕ × ℕ × Step)) (ports : List PortView) (port : PortView)
     → n < length heads → head ≡ get_or heads n head
-    → IsHostOf (take n heads) steps ports → port.head ≡ head → port.entries ≡ run head (asked_at n steps)
-    → IsHostOf (take (n + 1) heads) steps (ports ++ port ∷ [])
+    → IsPlayed (take n heads) steps ports → port.head ≡ head → port.entries ≡ run head (asked_at n steps)
+    → IsPlayed (take (n + 1) heads) steps (ports ++ port ∷ [])
 host_more heads n head steps ports port within here host same made =
     let more : take (n + 1) heads ≡ take n heads ++ head ∷ [] = take_more heads n head within ∙ ap (λ h. take n heads ++ h ∷ []) (sym here) in
     let count : length (take n heads) ≡ n = length-take-le n heads (omega (arith, within)) in
@@ -249,7 +249,7 @@ host_more heads n head steps ports port within here host same made =
       journals =
           map-append (λ port. port.entries) ports (port ∷ [])
           ∙ ap (λ journals. journals ++ port.entries ∷ []) host.journals
-          ∙ ap (λ entries. journals_of (take n heads) steps ++ entries ∷ []) (made ∙ ap (λ n. run head (asked_at n steps)) place)
+          ∙ ap (λ entries. runs_of (take n heads) steps ++ entries ∷ []) (made ∙ ap (λ n. run head (asked_at n steps)) place)
           ∙ sym (journals_push 0 (take n heads) head steps)
-          ∙ ap (λ heads. journals_of heads steps) (sym more);
+          ∙ ap (λ heads. runs_of heads steps) (sym more);
     }

@@ -1,2 +1,5 @@
+pub mod Calm
 pub mod Hosting
+pub mod Settled
+pub mod Versions
 pub mod Worked

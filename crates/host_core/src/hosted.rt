@@ -1,8 +1,10 @@
 ghost use Rattle.std.specs.Prelude.{◌≡◌, ◌≤◌, [], length, IfOk, OnOk};
 ghost use Rattle.ata_trace.specs.declared.who.Who.TheVariants.{Actor};
-ghost use Rattle.host_core.specs.Hosting.{IsHostOf};
-ghost use Rattle.port_core.specs.Hosts.{at_port, stepped, with_room};
+ghost use Rattle.host_core.specs.Calm.{AreCalmSteps, AreWellEnded, HaveAtMost};
+ghost use Rattle.host_core.specs.Hosting.{IsHostOf, IsPlayed};
+ghost use Rattle.port_core.specs.Hosts.{at_port, journals_in, stepped, with_room};
 
+use crate::settling::settle_all;
 use crate::turns::Turns;
 use ata_base::{ActorNo, OutOfMemory, PortNo};
 use ata_script::{PortHead, Script};
@@ -14,26 +16,30 @@ use std::alloc::Global;
 /// wanted there is no host.
 #[tactic(auto, using(crate::proofs::FewPorts::few_ports))]
 pub fn boot(alloc: Global, script: &Script) -> Result<Host, OutOfMemory>
-    ensures { IfOk result (λ host. IsHostOf script.now.head [] host) }
+    ensures { IfOk result (λ host. IsHostOf 0 script.now.head [] host) }
 {
     started(alloc, script.head.items())
 }
 
 /// All ports of a script after its steps: each took those at its number in the order of their lines, for
-/// their actors, of whom each has its steps at that port numbered from 0. Ports aren't settled. Where
-/// memory is wanted there is no host.
+/// their actors, of whom each has its steps at that port numbered from 0. Then each port is settled, with at
+/// most so many rounds. Where no step of the script disturbs a port and there are as many rounds as commands
+/// were accepted at a port, no command is live and each is answered `ok`. Where memory is wanted there is no host.
 #[tactic(auto, using(crate::proofs::FewPorts::few_ports))]
-pub fn replay(alloc: Global, script: &Script) -> Result<Host, OutOfMemory>
-    ensures { IfOk result (λ host. IsHostOf script.now.head script.now.steps host) }
+pub fn replay(alloc: Global, script: &Script, rounds: u32) -> Result<Host, OutOfMemory>
+    ensures host { IfOk result (λ host. IsHostOf rounds script.now.head script.now.steps host) }
+    ensures calm { AreCalmSteps script.now.steps → IfOk result (λ host. HaveAtMost rounds (journals_in host) → AreWellEnded (journals_in host)) }
 {
-    hosted(alloc, script.head.items(), script.steps.items())
+    let mut host = hosted(alloc, script.head.items(), script.steps.items())?;
+    let _ = settle_all(&mut host, rounds)?;
+    Ok(host)
 }
 
 // Ports with these heads, each booted.
 #[tactic(auto, using(crate::proofs::TakenSteps::host_more, crate::proofs::TakenSteps::host_count))]
 fn started(alloc: Global, heads: &[PortHead]) -> Result<Host, OutOfMemory>
     requires { length heads.now ≤ 8 }
-    ensures { IfOk result (λ host. IsHostOf heads.now [] host) }
+    ensures { IfOk result (λ host. IsPlayed heads.now [] host) }
 {
     let mut host = Host::new(alloc);
     for number in 0..heads.len() {
@@ -52,7 +58,7 @@ fn hosted(
     steps: &[(ActorNo, PortNo, Step)],
 ) -> Result<Host, OutOfMemory>
     requires { length heads.now ≤ 8 }
-    ensures { IfOk result (λ host. IsHostOf heads.now steps.now host) }
+    ensures { IfOk result (λ host. IsPlayed heads.now steps.now host) }
 {
     let mut host = started(alloc, heads)?;
     let mut turns = Turns::new();

@@ -1,9 +1,15 @@
-//! The host: all ports of a script, booted, and its steps taken at them.
+//! The host: all ports of a script, booted, its steps taken at them, and settled.
 #![tactic(auto)]
 
 mod hosted;
+mod laws;
+mod settling;
 mod turns;
+mod versions;
 mod worked;
 
 pub use hosted::{boot, replay};
+pub use laws::calm_scripts_end_well;
+pub use settling::{settle, settle_all};
+pub use versions::first_scripts_are_second_too;
 pub use worked::a_worked_row;

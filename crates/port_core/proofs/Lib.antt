@@ -1,8 +1,12 @@
 pub mod FewTries
 pub mod Growing
 pub mod Hosts
+pub mod NumberRanges
 pub mod Pieces
+pub mod Quiets
 pub mod Recoverable
+pub mod Settles
 pub mod StepRanges
+pub mod ToldLemmas
 pub mod TryLemmas
 pub mod Weaves

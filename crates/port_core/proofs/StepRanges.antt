@@ -25,11 +25,8 @@ use Rattle.ata_script.specs.Scripts.{IsScript}
 use Rattle.ata_script.specs.Taking.{eighth, ninth, fault_of_name, fault_step, flush_op, flush_step, head_item, inject_step, inject_with, item_for, kick_step, media_step, other_step, plug_step, read_op, read_step, serr_step, step_for, step_item, stray_step, submit_step, submit_with, tick_step, unplug_step, work_step, write_step, sector_in, count_in}
 use Rattle.ata_script.specs.declared.script.Script.{Script}
 use Rattle.port_rules.specs.Ranges.{IsScriptStep}
+use Rattle.port_core.proofs.NumberRanges.{is_in}
 use Rattle.port_core.specs.Weave.{AreScriptSteps, IsOfScript}
-
--- a number between two others, of which the greater has 64 bits
-pub is_in : (least most n : ℕ) → least ≤ n → n ≤ most → most < 2 ^ 64 → IsIn least most n
-is_in least most n low high small = record { low = low; high = high; small = omega (arith, high, small) }
 
 -- a number that is read is in its range
 in_range :

@@ -1,5 +1,5 @@
 -- What one step more makes of the steps at a port and of their run, and the laws of weaves.
-use Rattle.std.proofs.Common.{◌≡◌, ℕ, ◌+◌, ◌==◌, Bool, true, false, List, [], ◌∷◌, ◌++◌, refl, sym, ap, ◌∙◌, append_assoc, arith}
+use Rattle.std.proofs.Common.{◌≡◌, ℕ, ◌+◌, ◌==◌, Bool, true, false, List, [], ◌∷◌, ◌++◌, refl, sym, ap, subst, ◌∙◌, append_assoc, arith}
 use Rattle.std.specs.Prelude.{if◌then◌else◌}
 use Rattle.std.proofs.lemmas.Bool.Decides.{nat_tests}
 use Rattle.std.proofs.lemmas.List.{append-nil}
@@ -12,8 +12,10 @@ use Rattle.ata_trace.specs.declared.who.Who.TheVariants.{Actor}
 use Rattle.port_rules.specs.Boot.{boot_entry}
 use Rattle.port_rules.specs.Legal.{entry_after, AreLegal, HasLegalActs, IsLegal}
 use Rattle.port_rules.specs.Run.{StepCall, numbered, run, run_from}
+use Rattle.port_rules.specs.Settle.{settled_journal, settling}
+use Rattle.port_stands.proofs.Settled.{settling_is_legal}
 use Rattle.port_core.proofs.Growing.{runs_are_legal}
-use Rattle.port_core.specs.Weave.{AreLegalFor, AreScriptCalls, AreScriptSteps, IsInLineOrder, IsOfScript, IsScriptCall, asked_after_boot, asked_at, asked_by, asked_in, count_of, in_turn, journals_from, steps_at, steps_of}
+use Rattle.port_core.specs.Weave.{AreLegalFor, AreScriptCalls, AreScriptSteps, IsInLineOrder, IsOfScript, IsScriptCall, asked_at, asked_by, asked_in, count_of, in_turn, journals_from, steps_at, steps_of}
 
 -- a step behind others, numbered
 abbrev pub asked_next : List (ℕ × Step) → ℕ × Step → StepCall
@@ -59,21 +61,26 @@ legal_run head past (entry ∷ rest) legal =
     ∙ ap (λ entries. next ∷ entries) (legal_run head (grown past entry) rest legal.1)
     ∙ ap (λ e. next ∷ run_from head (grown past e) (asked_in rest)) legal.0
 
-journal_run : (head : PortHead) (entries : List EntryView) → HasLegalActs head entries → entries ≡ run head (asked_after_boot entries)
-journal_run head [] legal = absurd legal
-journal_run head (first ∷ rest) legal =
-    ap (λ e. e ∷ rest) legal.0
-    ∙ ap (λ entries. boot_entry head ∷ entries) (legal_run head (grown [] first) rest legal.1)
-    ∙ ap (λ e. boot_entry head ∷ run_from head (grown [] e) (asked_in rest)) legal.0
-
 asked_in_run : (head : PortHead) (past : List Event) (asked : List StepCall) → asked_in (run_from head past asked) ≡ asked
 asked_in_run head past [] = refl
 asked_in_run head past (first ∷ rest) = ap (λ asked. first ∷ asked) (asked_in_run head (grown past (entry_after head past first.who first.seq first.step)) rest)
 
--- a journal in line order is the run
-pub only_the_run : (head : PortHead) (number : ℕ) (steps : List (ℕ × ℕ × Step)) (entries : List EntryView)
-    → IsInLineOrder head number steps entries → entries ≡ run head (asked_at number steps)
-only_the_run head number steps entries p = journal_run head entries p.legal.acts ∙ ap (run head) p.asked
+-- entries with legal acts before others have legal acts
+legal_first : (head : PortHead) (past : List Event) (entries more : List EntryView) → AreLegal head past (entries ++ more) → AreLegal head past entries
+legal_first head past [] more legal = tt
+legal_first head past (entry ∷ rest) more legal = (legal.0, legal_first head (grown past entry) rest more legal.1)
+
+-- a journal in line order is the run, settled
+pub only_the_run : (rounds : ℕ) (head : PortHead) (number : ℕ) (steps : List (ℕ × ℕ × Step)) (entries : List EntryView)
+    → IsInLineOrder rounds head number steps entries → entries ≡ settled_journal rounds head (asked_at number steps)
+only_the_run rounds head number steps entries p =
+    let boot : EntryView = boot_entry head in
+    let acts : HasLegalActs head (boot ∷ p.played ++ settling head rounds (past_of (boot ∷ p.played))) = subst (HasLegalActs head) p.whole p.legal.acts in
+    let made : p.played ≡ run_from head (grown [] boot) (asked_at number steps) =
+    legal_run head (grown [] boot) p.played
+    (legal_first head (grown [] boot) p.played (settling head rounds (past_of (boot ∷ p.played))) acts.1)
+    ∙ ap (run_from head (grown [] boot)) p.asked in
+    p.whole ∙ ap (λ (played : List EntryView). boot ∷ played ++ settling head rounds (past_of (boot ∷ played))) made
 
 -- steps of a script that follow others, numbered, are calls of a script
 in_turn_in_range :
@@ -100,21 +107,25 @@ pub script_runs_are_legal :
 script_runs_are_legal head number steps each =
     runs_are_legal head (asked_at number steps) (in_turn_in_range number [] steps each)
 
--- and in line order
-pub runs_in_line_order : (head : PortHead) (number : ℕ) (steps : List (ℕ × ℕ × Step)) → AreScriptSteps steps
-    → IsInLineOrder head number steps (run head (asked_at number steps))
-runs_in_line_order head number steps each = record {
-  legal = script_runs_are_legal head number steps each;
+-- and in line order, settled
+pub runs_in_line_order : (rounds : ℕ) (head : PortHead) (number : ℕ) (steps : List (ℕ × ℕ × Step)) → AreScriptSteps steps
+    → IsInLineOrder rounds head number steps (settled_journal rounds head (asked_at number steps))
+runs_in_line_order rounds head number steps each = record {
+  played = run_from head (grown [] (boot_entry head)) (asked_at number steps);
+  whole = refl;
   asked = asked_in_run head (grown [] (boot_entry head)) (asked_at number steps);
+  legal = settling_is_legal head (run head (asked_at number steps)) (script_runs_are_legal head number steps each) rounds;
 }
 
 -- so is each journal of the ports
 pub journals_are_legal :
-    (number : ℕ) (heads : List PortHead) (steps : List (ℕ × ℕ × Step)) → AreScriptSteps steps
-    → AreLegalFor heads (journals_from number heads steps)
-journals_are_legal number [] steps each = tt
-journals_are_legal number (head ∷ rest) steps each =
-    (script_runs_are_legal head number steps each, journals_are_legal (number + 1) rest steps each)
+    (rounds number : ℕ) (heads : List PortHead) (steps : List (ℕ × ℕ × Step)) → AreScriptSteps steps
+    → AreLegalFor heads (journals_from rounds number heads steps)
+journals_are_legal rounds number [] steps each = tt
+journals_are_legal rounds number (head ∷ rest) steps each = (
+  settling_is_legal head (run head (asked_at number steps)) (script_runs_are_legal head number steps each) rounds,
+  journals_are_legal rounds (number + 1) rest steps each,
+)
 
 pub count_push : (actor : ℕ) (steps : List (ℕ × Step)) (taken : ℕ × Step)
     → count_of actor (steps ++ taken ∷ []) ≡ (if taken.0 == actor then count_of actor steps + 1 else count_of actor steps)

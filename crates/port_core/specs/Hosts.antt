@@ -7,6 +7,7 @@ use Rattle.ata_trace.specs.declared.who.Who.{Who}
 use Rattle.port_core.specs.PortView.{PortView}
 use Rattle.port_past.specs.Live.{live}
 use Rattle.port_rules.specs.Legal.{entry_after}
+use Rattle.port_rules.specs.Settle.{settling}
 
 -- the ports are numbered one after the other, from this number on
 abbrev pub AreNumbered : ℕ → List PortView → Type 0
@@ -40,6 +41,14 @@ heads_in ports = map (λ port. port.head) ports
 -- the journals of ports
 abbrev pub journals_in : List PortView → List (List EntryView)
 journals_in ports = map (λ port. port.entries) ports
+
+-- the journal of a port with the settling entries after it, of at most so many rounds
+abbrev pub settled_of : ℕ → PortView → List EntryView
+settled_of rounds port = port.entries ++ settling port.head rounds (past_of port.entries)
+
+-- the journals of ports, each with its settling
+abbrev pub settled_in : ℕ → List PortView → List (List EntryView)
+settled_in rounds ports = map (settled_of rounds) ports
 
 -- how many commands are live in a journal
 abbrev pub lives_in : List EntryView → ℕ

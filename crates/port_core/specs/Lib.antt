@@ -1,5 +1,9 @@
+pub mod ActGroups
 pub mod Hosts
+pub mod Idle
 pub mod Kept
 pub mod PortView
+pub mod Quiet
 pub mod Text
+pub mod Told
 pub mod Weave

@@ -1,13 +1,15 @@
 -- The steps of a script at its ports, and the journals that they make.
 use Rattle.std.specs.Prelude.{◌≡◌, ℕ, ◌+◌, ◌==◌, Bool, false, List, [], ◌∷◌, ◌++◌, All, if◌then◌else◌}
 use Rattle.ata_script.specs.declared.port_head.PortHead.{PortHead}
-use Rattle.ata_trace.specs.Entries.{EntryView}
+use Rattle.ata_trace.specs.Entries.{EntryView, past_of}
 use Rattle.ata_trace.specs.declared.step.Step.{Step}
 use Rattle.ata_trace.specs.declared.who.Who.{Who}
 use Rattle.ata_trace.specs.declared.who.Who.TheVariants.{Actor}
+use Rattle.port_rules.specs.Boot.{boot_entry}
 use Rattle.port_rules.specs.Legal.{IsLegal}
 use Rattle.port_rules.specs.Ranges.{IsScriptStep}
 use Rattle.port_rules.specs.Run.{StepCall, run}
+use Rattle.port_rules.specs.Settle.{settled_journal, settling}
 
 -- the steps at a port, each with its actor, in the order of their lines
 abbrev pub steps_at : ℕ → List (ℕ × ℕ × Step) → List (ℕ × Step)
@@ -29,14 +31,25 @@ in_turn before (taken ∷ rest) =
 abbrev pub asked_at : ℕ → List (ℕ × ℕ × Step) → List StepCall
 asked_at port steps = in_turn [] (steps_at port steps)
 
--- the journals that steps make at the ports with these heads, of which the first has this number
-abbrev pub journals_from : ℕ → List PortHead → List (ℕ × ℕ × Step) → List (List EntryView)
-journals_from number [] steps = []
-journals_from number (head ∷ rest) steps = run head (asked_at number steps) ∷ journals_from (number + 1) rest steps
+-- what steps make at the ports with these heads, of which the first has this number, before a port is settled
+abbrev pub runs_from : ℕ → List PortHead → List (ℕ × ℕ × Step) → List (List EntryView)
+runs_from number [] steps = []
+runs_from number (head ∷ rest) steps = run head (asked_at number steps) ∷ runs_from (number + 1) rest steps
 
--- the journals that steps make at the ports with these heads
-abbrev pub journals_of : List PortHead → List (ℕ × ℕ × Step) → List (List EntryView)
-journals_of heads steps = journals_from 0 heads steps
+-- what steps make at the ports with these heads, before a port is settled
+abbrev pub runs_of : List PortHead → List (ℕ × ℕ × Step) → List (List EntryView)
+runs_of heads steps = runs_from 0 heads steps
+
+-- the journals that steps make at the ports with these heads, of which the first has this number, each settled with at
+-- most so many rounds
+abbrev pub journals_from : ℕ → ℕ → List PortHead → List (ℕ × ℕ × Step) → List (List EntryView)
+journals_from rounds number [] steps = []
+journals_from rounds number (head ∷ rest) steps =
+    settled_journal rounds head (asked_at number steps) ∷ journals_from rounds (number + 1) rest steps
+
+-- the journals that steps make at the ports with these heads, each settled with at most so many rounds
+abbrev pub journals_of : ℕ → List PortHead → List (ℕ × ℕ × Step) → List (List EntryView)
+journals_of rounds heads steps = journals_from rounds 0 heads steps
 
 -- a step of an actor at a port is one that a script can have
 abbrev pub IsOfScript : ℕ × ℕ × Step → Type 0
@@ -75,16 +88,15 @@ abbrev pub asked_by : ℕ → List StepCall → List StepCall
 asked_by actor [] = []
 asked_by actor (asked ∷ rest) = if is_actor actor asked.who then asked ∷ asked_by actor rest else asked_by actor rest
 
--- what the entries behind the first were asked for
+-- what entries were asked for
 abbrev pub asked_in : List EntryView → List StepCall
 asked_in [] = []
 asked_in (entry ∷ rest) = record { who = entry.who; seq = entry.seq; step = entry.step } ∷ asked_in rest
 
-abbrev pub asked_after_boot : List EntryView → List StepCall
-asked_after_boot [] = []
-asked_after_boot (boot ∷ rest) = asked_in rest
-
--- a journal of a port with this head and number, at which a script takes these steps, in line order
-pub record IsInLineOrder (head : PortHead) (number : ℕ) (steps : List (ℕ × ℕ × Step)) (entries : List EntryView) : Type 0 where
+-- a journal of a port with this head and number, at which a script takes these steps, in line order, and which settles
+-- with at most so many rounds: the boot entry, the entries of the actors, and the settling entries
+pub record IsInLineOrder (rounds : ℕ) (head : PortHead) (number : ℕ) (steps : List (ℕ × ℕ × Step)) (entries : List EntryView) : Type 0 where
+  pub played : List EntryView
+  pub whole : entries ≡ boot_entry head ∷ played ++ settling head rounds (past_of (boot_entry head ∷ played))
+  pub asked : asked_in played ≡ asked_at number steps
   pub legal : IsLegal head entries
-  pub asked : asked_after_boot entries ≡ asked_at number steps

@@ -1,12 +1,13 @@
 ghost use Rattle.std.specs.Prelude.{◌≡◌, ◌≤◌, ◌++◌, ◌∷◌, [], length, slice_get, IfSome, OnOk, OnErr};
 ghost use Rattle.std.specs.Option.{option_copied};
-ghost use Rattle.port_core.specs.Hosts.{AreNumbered, at_port, journals_in, lives_of, stepped, with_room};
+ghost use Rattle.port_core.specs.Hosts.{AreNumbered, AreOfHost, at_port, journals_in, lives_of, stepped, with_room};
 
 use crate::port::Port;
 use ata_base::{OutOfMemory, PortNo};
 use ata_trace::{Step, Who};
 use std::alloc::Global;
 use std::marker::Model;
+use std::mem;
 
 /// The ports of a host in the order of their numbers: the one at place i has the number i. A contract
 /// sees them as a list.
@@ -76,6 +77,24 @@ impl Host {
         if place < self.ports.len() {
             self.ports[place].step(who, seq, step);
         }
+    }
+
+    /// Hands out the ports in order, and has none any more.
+    pub fn take_ports(&mut self) -> Vec<Port>
+        ensures ports { result.items ≡ self.old }
+        ensures none { self.new ≡ [] }
+        ensures of_host { AreOfHost self.old }
+    {
+        let alloc = *self.ports.allocator();
+        mem::replace(&mut self.ports, Vec::new(alloc))
+    }
+
+    /// Takes these ports in place of its own.
+    pub fn give_ports(&mut self, ports: Vec<Port>)
+        requires { AreOfHost ports.items }
+        ensures { self.new ≡ ports.items }
+    {
+        self.ports = ports;
     }
 
     /// The ports in order.

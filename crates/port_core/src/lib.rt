@@ -2,16 +2,20 @@
 //! order of their numbers.
 #![tactic(auto)]
 
+mod act_ranges;
 mod host;
+mod journal_ranges;
 mod laws;
+mod number_ranges;
 mod port;
+mod quiet;
 mod ranges;
 mod text;
 
 pub use host::Host;
 pub use laws::{
-    actors_in_turn, legal_pasts_are_recoverable, one_in_line_order, runs_are_legal,
-    script_journals_are_legal,
+    actors_in_turn, legal_pasts_are_recoverable, one_in_line_order, one_text_of_journals,
+    runs_are_legal, script_journals_are_legal,
 };
 pub use port::Port;
 pub use text::{put_host, put_port};

@@ -1,5 +1,5 @@
-ghost use Rattle.std.specs.Prelude.{◌≡◌, ℕ, true, false, ◌<◌, ◌≤◌, ◌++◌, ◌==◌, ◌∷◌, [], length, IfOk, OnOk, OnErr};
-ghost use Rattle.std.specs.List.{list_any};
+ghost use Rattle.std.specs.Prelude.{◌≡◌, ℕ, true, false, ◌<◌, ◌≤◌, ◌+◌, ◌++◌, ◌==◌, ◌∷◌, [], length, IfOk, IfSome, OnOk, OnErr, option_map};
+ghost use Rattle.std.specs.List.{list_all, list_any};
 ghost use Rattle.ata_trace.specs.Entries.{past_of};
 ghost use Rattle.port_facts.specs.Moments.{AtEach};
 ghost use Rattle.port_laws.specs.Ending.{IsEmptyAtEnd};
@@ -10,17 +10,26 @@ ghost use Rattle.port_laws.specs.Silent.{IsSilentWhileFrozen};
 ghost use Rattle.port_laws.specs.Statuses.{IsRightStatus};
 ghost use Rattle.port_laws.specs.Success.{IsDoneWell};
 ghost use Rattle.port_laws.specs.Tags.{IsTagFree};
+ghost use Rattle.port_before.specs.BeforeDrain.{coming_before_drain, entry_before_drain};
+ghost use Rattle.port_before.specs.BeforeSwitching.{entry_before_switching};
+ghost use Rattle.port_core.specs.Idle.{is_idle_last};
+ghost use Rattle.port_past.specs.Clock.{clock};
 ghost use Rattle.port_past.specs.Commands.{commands};
 ghost use Rattle.port_past.specs.Live.{live};
+ghost use Rattle.port_past.specs.PortState.{is_recovering};
+ghost use Rattle.port_past.specs.Settlings.{settle_count};
 ghost use Rattle.port_stands.specs.Silence.{IsSilentAfterAnswer};
 ghost use Rattle.port_rules.specs.Boot.{boot_entry};
+ghost use Rattle.port_rules.specs.Coming.{coming};
 ghost use Rattle.port_rules.specs.Legal.{IsLegal, entry_after};
 ghost use Rattle.port_rules.specs.Ranges.{IsScriptStep};
+ghost use Rattle.port_rules.specs.Settle.{is_idle_act, is_settled};
 
+use crate::quiet::is_quiet;
 use crate::ranges::in_range;
-use ata_base::{Cmd, CmdId, OutOfMemory, PortNo};
+use ata_base::{Cmd, CmdId, Ms, OutOfMemory, PortNo};
 use ata_script::PortHead;
-use ata_trace::{Journal, Step, Who};
+use ata_trace::{Act, Journal, Step, Who};
 use port_ledger::Ledger;
 use std::alloc::Global;
 use std::marker::Model;
@@ -79,6 +88,10 @@ impl Port {
         ensures entries { self.new.entries ≡ self.old.entries ++ entry_after self.old.head (past_of self.old.entries) who seq step.now ∷ [] }
         ensures legal { IsLegal self.new.head self.new.entries }
 
+        // At a port without FIS-based switching, or without drain, the entry is that of the rules before it.
+        ensures before_switching { self.old.head.fbs ≡ false → self.new.entries ≡ self.old.entries ++ entry_before_switching self.old.head (past_of self.old.entries) who seq step.now ∷ [] }
+        ensures before_drain { self.old.head.drain ≡ false → self.new.entries ≡ self.old.entries ++ entry_before_drain self.old.head (past_of self.old.entries) who seq step.now ∷ [] }
+
         // The laws of every legal journal.
         ensures once { AtEach AreOnceOrLive (past_of self.new.entries) }
         ensures success { AtEach (IsDoneWell self.new.head) (past_of self.new.entries) }
@@ -95,6 +108,13 @@ impl Port {
     {
         self.spare = 0;
         take(&mut self.ledger, who, seq, step);
+    }
+
+    /// The journal is legal for the head of the port. It does nothing.
+    pub fn stays_legal(&self)
+        ensures { IsLegal self.now.head self.now.entries }
+    {
+        let _ = &self.ledger;
     }
 
     /// The number of the port.
@@ -134,6 +154,60 @@ impl Port {
         self.ledger.accepted()
     }
 
+    /// Whether recovery is asked for or runs.
+    pub fn recovering(&self) -> bool
+        ensures { result ≡ is_recovering (past_of self.now.entries) }
+    {
+        self.ledger.is_recovering()
+    }
+
+    /// Whether nothing is left to do: no command is live, and the port isn't recovering.
+    #[tactic(auto, using(crate::proofs::Quiets::quiet_is))]
+    pub fn is_settled(&self) -> bool
+        ensures { result ≡ is_settled (past_of self.now.entries) }
+    {
+        is_quiet(&self.ledger) && !self.ledger.is_recovering()
+    }
+
+    /// Whether the last entry has only `nothing`, `deferred` and `waiting` acts.
+    #[tactic(auto, using(crate::proofs::Settles::idle_some, crate::proofs::Settles::idle_none))]
+    pub fn idle_last(&self) -> bool
+        ensures { result ≡ is_idle_last self.now.entries }
+    {
+        let journal = self.ledger.journal();
+        match journal.entry(journal.len().saturating_sub(1)) {
+            Some(entry) => are_idle(entry.acts),
+            None => true,
+        }
+    }
+
+    /// How many entries of the settling there are.
+    pub fn settled(&self) -> u64
+        ensures { result ≡ settle_count (past_of self.now.entries) }
+    {
+        self.ledger.settle_count()
+    }
+
+    /// The time by the clock, in ms.
+    pub fn now(&self) -> Ms
+        ensures { result.n ≡ clock (past_of self.now.entries) }
+    {
+        self.ledger.clock()
+    }
+
+    /// The time in ms to which a settling port ticks after an idle round: the least time after the present for which it
+    /// waits, at most 1,000,000 ms away; `None` exactly where there is no such time.
+    #[tactic(auto, using(crate::proofs::Recoverable::recoverable, crate::proofs::Settles::quiet_early, crate::proofs::Settles::comes_soon))]
+    pub fn coming(&self) -> Option<Ms>
+        ensures value { option_map (λ time. time.n) result ≡ coming self.now.head (past_of self.now.entries) }
+        ensures later { IfSome result (λ time. clock (past_of self.now.entries) < time.n) }
+        ensures soon { IfSome result (λ time. time.n ≤ clock (past_of self.now.entries) + 1000000) }
+        ensures before_drain { self.now.head.drain ≡ false → option_map (λ time. time.n) result ≡ coming_before_drain self.now.head (past_of self.now.entries) }
+    {
+        let _ = self.ledger.clock();
+        port_steps::coming(&self.ledger)
+    }
+
     /// The head, lent.
     pub fn head(&self) -> &PortHead
         ensures { result.now ≡ self.now.head }
@@ -147,6 +221,27 @@ impl Port {
     {
         self.ledger.head().places
     }
+}
+
+/// Whether each of these acts is one of an idle round: `nothing`, `deferred` or `waiting`.
+fn are_idle(acts: &[Act]) -> bool
+    ensures { result ≡ list_all is_idle_act acts.now }
+{
+    acts.iter().all(|act| is_idle_act(act))
+}
+
+/// Whether an act is `nothing`, `deferred` or `waiting`.
+fn is_idle_act(act: &Act) -> bool
+    ensures { result ≡ is_idle_act act.now }
+{
+    matches!(
+        act,
+        Act::Nothing
+            | Act::Deferred { .. }
+            | Act::WaitingTag { .. }
+            | Act::WaitingReset { .. }
+            | Act::WaitingIdent { .. }
+    )
 }
 
 /// The ledger of a port that has booted.
@@ -166,6 +261,8 @@ fn take(ledger: &mut Ledger, who: Who, seq: u64, step: &Step)
     requires room { 128 ≤ ledger.old.room }
     requires legal { IsLegal ledger.old.head ledger.old.entries }
     ensures entries { ledger.new.entries ≡ ledger.old.entries ++ entry_after ledger.old.head (past_of ledger.old.entries) who seq step.now ∷ [] }
+    ensures before_switching { ledger.old.head.fbs ≡ false → ledger.new.entries ≡ ledger.old.entries ++ entry_before_switching ledger.old.head (past_of ledger.old.entries) who seq step.now ∷ [] }
+    ensures before_drain { ledger.old.head.drain ≡ false → ledger.new.entries ≡ ledger.old.entries ++ entry_before_drain ledger.old.head (past_of ledger.old.entries) who seq step.now ∷ [] }
     ensures legal { IsLegal ledger.new.head ledger.new.entries }
     ensures head { ledger.new.head ≡ ledger.old.head }
 {

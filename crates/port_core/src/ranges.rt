@@ -1,9 +1,13 @@
 ghost use Rattle.std.specs.Prelude.{◌≡◌};
-ghost use Rattle.ata_trace.specs.Ranges.{IsFault, IsId, IsIn, IsOp, IsPlace, IsTag};
+ghost use Rattle.ata_trace.specs.Ranges.{IsFault, IsOp};
 ghost use Rattle.ata_trace.specs.ScriptRanges.{IsScriptFault, IsScriptOp};
 ghost use Rattle.port_rules.specs.Ranges.{IsScriptStep};
 
-use ata_base::{Allowance, CmdId, DriveNo, Fault, Op, Pick, Place, Tag, Tick, Wait};
+use crate::number_ranges::{
+    allowance_in_range, drive_in_range, id_in_range, pick_in_range, place_in_range, tag_in_range,
+    tick_in_range, wait_in_range,
+};
+use ata_base::{Fault, Op};
 use ata_trace::{ScriptFault, ScriptOp, Step};
 
 /// Each step is one that a script can have: its numbers are in the ranges of their types. It changes nothing.
@@ -48,72 +52,8 @@ pub fn in_range(step: &Step)
     }
 }
 
-// The number of a command.
-#[tactic(auto, using(crate::proofs::StepRanges::is_in))]
-fn id_in_range(id: CmdId)
-    ensures { IsId id }
-{
-    let _ = id.get();
-}
-
-// A place.
-#[tactic(auto, using(crate::proofs::StepRanges::is_in))]
-fn place_in_range(place: Place)
-    ensures { IsPlace place }
-{
-    let _ = place.get();
-}
-
-// A pick.
-#[tactic(auto, using(crate::proofs::StepRanges::is_in))]
-fn pick_in_range(pick: Pick)
-    ensures { IsTag pick }
-{
-    let _ = pick.get();
-}
-
-// A tag.
-#[tactic(auto, using(crate::proofs::StepRanges::is_in))]
-fn tag_in_range(tag: Tag)
-    ensures { IsTag tag }
-{
-    let _ = tag.get();
-}
-
-// The number of a drive.
-#[tactic(auto, using(crate::proofs::StepRanges::is_in))]
-fn drive_in_range(drive: DriveNo)
-    ensures { IsTag drive }
-{
-    let _ = drive.get();
-}
-
-// An allowance.
-#[tactic(auto, using(crate::proofs::StepRanges::is_in))]
-fn allowance_in_range(allow: Allowance)
-    ensures { IsIn 0 100 allow }
-{
-    let _ = allow.get();
-}
-
-// A wait.
-#[tactic(auto, using(crate::proofs::StepRanges::is_in))]
-fn wait_in_range(wait: Wait)
-    ensures { IsIn 1 1000000 wait }
-{
-    let _ = wait.get();
-}
-
-// How long time passes.
-#[tactic(auto, using(crate::proofs::StepRanges::is_in))]
-fn tick_in_range(ms: Tick)
-    ensures { IsIn 0 1000000 ms }
-{
-    let _ = ms.get();
-}
-
 // An operation.
-#[tactic(auto, using(crate::proofs::StepRanges::is_in))]
+#[tactic(auto, using(crate::proofs::NumberRanges::is_in))]
 fn op_in_range(op: ScriptOp)
     ensures numbers { IsOp op }
     ensures sectors { IsScriptOp op }
@@ -128,7 +68,7 @@ fn op_in_range(op: ScriptOp)
 }
 
 // A fault.
-#[tactic(auto, using(crate::proofs::StepRanges::is_in))]
+#[tactic(auto, using(crate::proofs::NumberRanges::is_in))]
 fn fault_in_range(fault: ScriptFault)
     ensures numbers { IsFault fault }
     ensures times { IsScriptFault fault }

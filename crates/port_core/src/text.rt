@@ -5,33 +5,37 @@ ghost use Rattle.ata_trace.specs.Lent.{entry_lent};
 ghost use Rattle.ata_trace.specs.Text.{act_line, head_line};
 ghost use Rattle.port_core.specs.Text.{port_line, entry_text, live_line, live_text, end_line, counts_text, rest_text, port_text, text_of, texts_of};
 ghost use Rattle.port_core.specs.Hosts.{journals_in};
+ghost use Rattle.port_core.specs.Told.{AreInRange, IsTold, told_of};
 ghost use Rattle.port_past.specs.Commands.{commands};
 ghost use Rattle.port_past.specs.Live.{live};
 ghost use Rattle.ata_trace.specs.Entries.{past_of};
 
 use crate::host::Host;
+use crate::journal_ranges::{port_in_range, ports_in_range};
 use crate::port::Port;
 use ata_base::{Cmd, CmdId};
 use ata_io::{Sink, WriteFault, put_all};
 use ata_trace::{Act, Entry, Journal, Line, set_act_line, set_head_line};
 
 /// Appends the text of a port to the sink, and no write failed; or `WriteFault` at the first write that
-/// failed, and a prefix of the text was appended. It takes no memory. Each line is one piece: a clause
-/// speaks of the bytes alone, so that is tested and not proved.
+/// failed, and a prefix of the text was appended. All that the text tells is in the ranges of its types, so that it is the
+/// text of no other journal. It takes no memory. Each line is one piece: a clause speaks of the bytes alone, so that is
+/// tested and not proved.
 pub fn put_port<K: Sink>(port: &Port, sink: &mut K) -> Result<(), WriteFault>
-    ensures { Writes K.written K.fault_count sink.old sink.new result
+    ensures written { Writes K.written K.fault_count sink.old sink.new result
         (port_text port.now.number port.now.entries) }
+    ensures ranges { IsTold (told_of port.now) }
 {
-    match put_first(port, sink) {
-        Ok(()) => put_rest(port, sink),
-        Err(_) => Err(WriteFault),
-    }
+    port_in_range(port);
+    put_text(port, sink)
 }
 
 /// Appends the texts of all ports of a host in the order of their numbers, as `put_port` does each.
 pub fn put_host<K: Sink>(host: &Host, sink: &mut K) -> Result<(), WriteFault>
-    ensures { Writes K.written K.fault_count sink.old sink.new result (texts_of (journals_in host.now)) }
+    ensures written { Writes K.written K.fault_count sink.old sink.new result (texts_of (journals_in host.now)) }
+    ensures ranges { AreInRange (journals_in host.now) }
 {
+    ports_in_range(host.ports());
     put_ports(host.ports(), sink)
 }
 
@@ -40,12 +44,23 @@ fn put_ports<K: Sink>(ports: &[Port], sink: &mut K) -> Result<(), WriteFault>
     ensures { Writes K.written K.fault_count sink.old sink.new result (flat_map text_of ports.now) }
 {
     for port in ports {
-        match put_port(port, sink) {
+        match put_text(port, sink) {
             Ok(()) => {}
             Err(_) => return Err(WriteFault),
         }
     }
     Ok(())
+}
+
+/// The text of a port.
+fn put_text<K: Sink>(port: &Port, sink: &mut K) -> Result<(), WriteFault>
+    ensures { Writes K.written K.fault_count sink.old sink.new result
+        (port_text port.now.number port.now.entries) }
+{
+    match put_first(port, sink) {
+        Ok(()) => put_rest(port, sink),
+        Err(_) => Err(WriteFault),
+    }
 }
 
 /// All but the first line: the entries, the live commands and the counts.

@@ -1,3 +1,4 @@
+pub mod AwaitedLemmas
 pub mod DispatchLemmas
 pub mod FoundLemmas
 pub mod IrqLemmas

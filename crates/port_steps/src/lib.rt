@@ -4,6 +4,7 @@
 //! entry has begun.
 #![tactic(auto)]
 
+mod coming_time;
 mod deferral;
 mod dispatch;
 mod interrupt;
@@ -13,5 +14,6 @@ mod submit;
 mod taken;
 mod work;
 
+pub use coming_time::coming;
 pub use dispatch::act;
 pub use start::boot;

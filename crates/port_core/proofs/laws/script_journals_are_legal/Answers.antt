@@ -6,4 +6,4 @@ pub returns-clause-steps : goal.returns-clause-steps
 returns-clause-steps c = script_in_range
 
 pub returns-clause-journals : goal.returns-clause-journals
-returns-clause-journals c bytes script is = journals_are_legal 0 script.head script.steps (script_in_range bytes script is)
+returns-clause-journals c bytes script rounds is = journals_are_legal rounds 0 script.head script.steps (script_in_range bytes script is)

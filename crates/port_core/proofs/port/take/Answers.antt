@@ -1,5 +1,7 @@
-use Rattle.std.proofs.Common.{◌≡◌, ◌∷◌, [], ◌++◌}
-use Rattle.ata_trace.specs.Entries.{past_of}
+use Rattle.std.proofs.Common.{◌≡◌, ◌∙◌, ◌∷◌, [], ◌++◌, ap}
+use Rattle.ata_trace.specs.Entries.{EntryView, past_of}
+use Rattle.port_before.proofs.Struck.{entry_switched}
+use Rattle.port_before.proofs.Undrained.{entry_undrained}
 use Rattle.port_rules.specs.Legal.{entry_after}
 use Rattle.port_core.proofs.Growing.{entries_grown, IsLegal_more}
 use Rattle.port_core.proofs.Recoverable.{recoverable}
@@ -7,6 +9,18 @@ use Rattle.port_core.proofs.port.take.Goals as goal
 
 pub returns-clause-entries : goal.returns-clause-entries
 returns-clause-entries c = entries_grown _ _ _ c.act.ensures.past
+
+pub returns-clause-before_switching : goal.returns-clause-before_switching
+returns-clause-before_switching c fbs =
+    entries_grown _ _ _ c.act.ensures.past
+    ∙ ap (λ (entry : EntryView). c.args.ledger.now.entries ++ entry ∷ [])
+    (entry_switched c.args.ledger.now.head fbs c.args.ledger.now.entries c.requires.legal c.args.who c.args.seq c.args.step.now)
+
+pub returns-clause-before_drain : goal.returns-clause-before_drain
+returns-clause-before_drain c drain =
+    entries_grown _ _ _ c.act.ensures.past
+    ∙ ap (λ (entry : EntryView). c.args.ledger.now.entries ++ entry ∷ [])
+    (entry_undrained c.args.ledger.now.head drain c.args.ledger.now.entries c.requires.legal c.args.who c.args.seq c.args.step.now)
 
 pub returns-clause-legal : goal.returns-clause-legal
 returns-clause-legal c =

@@ -1,5 +1,5 @@
 use Rattle.port_core.proofs.Pieces.{wrote, writes_then, writes_cut}
-use Rattle.port_core.proofs.text.put_port.Goals as goal
+use Rattle.port_core.proofs.text.put_text.Goals as goal
 
 pub returns-in-Ok : goal.returns-in-Ok
 returns-in-Ok g c = writes_then _ _ _ _ _ _ _ _ (wrote _ _ _ _ _ _ c.in-Ok.ensures) c.put_rest.ensures
