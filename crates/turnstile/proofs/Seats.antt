@@ -2,6 +2,7 @@
 use Rattle.std.proofs.Common.{◌≡◌, ℕ, ◌+◌, ◌-◌, ◌%◌, ◌^◌, ◌≤◌, List, [], ◌∷◌, ◌++◌, length, refl, sym, ap, ◌∙◌, subst, Option, None, Some, Result, MatchResult, length-append, append-nil, arith}
 use Rattle.std.specs.declared.result.Result.TheVariants.{Ok, Err}
 use Rattle.std.specs.Option.{option_to_list}
+use Rattle.std.specs.Prelude.{IfSome, IsSomeAnd}
 use mathlib.Core.List.{IsPrefix}
 use mathlib.Core.Option.{some, some-injective}
 use lib.ListN.{get_elem?}
@@ -144,19 +145,18 @@ module _ {E M : Type 0} where
   left_by v m (Ok t) e l = l
   left_by v m (Err x) e l = l
 
-  -- the machine was taken out, stepped and given back
-  pub stepped_in : {F : Type 0} (history : M → List E) (fixed : M → F) (v : SeatView E M) (m m' m'' : Me (Option M) (SeatView E M)) (got : Option M) (x z : M) (y : Option E) → Admitted v m → m.1 ≡ (0, got) ∷ rest m.1 → m' ≡ (m.0, (0, None) ∷ rest m.1) → m'' ≡ (m'.0, (0, Some z) ∷ rest m'.1)
-      → got ≡ Some x → history z ≡ history x ++ option_to_list y → fixed z ≡ fixed x
-      → (o : M) × InHand v m'' o (Some z) × (history z ≡ history o ++ option_to_list y) × (fixed z ≡ fixed o)
-  stepped_in history fixed v m m' m'' got x z y a held out back is more kept =
-      let found : got ≡ Some a.2 = taken_is m (view v.share (InTurn a.0 a.2) a.1 v.own) (Some a.2) got a.4 held in
-      let same : x ≡ a.2 = cc in
-      let hand = put_in v m m' a.2 (Some a.2) None (admitted_in v m a) out in (
-        a.2,
-        put_in v m' m'' a.2 None (Some z) hand back,
-        subst (λ (o : M). history z ≡ history o ++ option_to_list y) same more,
-        kept ∙ ap fixed same,
-      )
+  -- the machine was lent where it lies, and stepped
+  pub lent_in : {F X T : Type 0} (history : M → List E) (fixed : M → F) (v : SeatView E M) (m : Me (Option M) (SeatView E M)) (lent left : Option M) (r : Result T X) (e : E) → Admitted v m → m.1 ≡ (0, lent) ∷ rest m.1
+      → IfSome lent (λ x. IsSomeAnd left (λ z. (fixed z ≡ fixed x) × MatchResult r (λ _. history z ≡ history x ++ e ∷ []) (λ _. history z ≡ history x)))
+      → (z : M) × (o : M) × InHand v (m.0, (0, left) ∷ rest m.1) o (Some z) × (history z ≡ history o ++ option_to_list (made_by r e)) × (fixed z ≡ fixed o)
+  lent_in history fixed v m lent left r e a held stepped =
+      let found : lent ≡ Some a.2 = taken_is m (view v.share (InTurn a.0 a.2) a.1 v.own) (Some a.2) lent a.4 held in
+      by_left left (subst (λ (l : Option M). IfSome l (λ x. IsSomeAnd left (λ z. (fixed z ≡ fixed x) × MatchResult r (λ _. history z ≡ history x ++ e ∷ []) (λ _. history z ≡ history x)))) found stepped)
+    where
+      by_left : (o : Option M) → IsSomeAnd o (λ z. (fixed z ≡ fixed a.2) × MatchResult r (λ _. history z ≡ history a.2 ++ e ∷ []) (λ _. history z ≡ history a.2))
+          → (z : M) × (x : M) × InHand v (m.0, (0, o) ∷ rest m.1) x (Some z) × (history z ≡ history x ++ option_to_list (made_by r e)) × (fixed z ≡ fixed x)
+      by_left None t = absurd t
+      by_left (Some z) t = (z, a.2, put_in v m (m.0, (0, Some z) ∷ rest m.1) a.2 (Some a.2) (Some z) (admitted_in v m a) refl, more_by (history a.2) (history z) r e t.1, t.0)
 
 module _ {E M F : Type 0} (history : M → List E) (fixed : M → F) (first : List E) (part : F) where
   pub draws_as : (slots id : ℕ) (m : Me (Option M) (SeatView E M)) → IsIdle m → 1 ≤ m.0.share

@@ -1,4 +1,4 @@
-ghost use Rattle.std.specs.Prelude.{◌≡◌, ℕ, ◌+◌, ◌-◌, ◌^◌, ◌≤◌, List, [], ◌∷◌, ◌++◌, map, length, IfOk, IfErr, MatchBool, MatchResult, Some, None};
+ghost use Rattle.std.specs.Prelude.{◌≡◌, ℕ, ◌+◌, ◌-◌, ◌^◌, ◌≤◌, ◌<◌, List, [], ◌∷◌, ◌++◌, map, length, IfOk, IfErr, IfSome, IsSome, IsSomeAnd, MatchBool, MatchResult, Some, None};
 ghost use mathlib.Core.List.{IsPrefix};
 ghost use Rattle.turnstile.specs.Places.{AreApart, EndsWith, Rises, entry_at, merged, longer};
 ghost use Rattle.turnstile.specs.Steps.{IsIdle, IsWaiting, Admitted, Left};
@@ -12,9 +12,11 @@ use crate::seat_view::SeatView;
 use crate::steps::{Both, Cut, Draw, Law, Learn, Look, Mark, Serve};
 use atomic_table::{Refused, Seat, Table};
 use std::alloc::Global;
+use std::array;
 use std::hint::spin_loop;
 use std::snapshot::Snapshot;
 use std::sync::Wait;
+use std::sync::atomic::{AtomicU64, Ordering};
 
 // How often a caller looks at the turn before it sleeps.
 const LOOKS: u32 = 64;
@@ -27,32 +29,40 @@ const TICKETS: usize = 1;
 // Its slot.
 const MACHINE: usize = 0;
 
+// Tickets that differ by less than this have different bells.
+const BELLS: usize = 32;
+
 /// A machine that callers enter one after the other, in the order in which they drew their tickets.
 #[derive(Drop)]
 pub struct Turnstile<M: Machine> {
+    // A sleeper waits for the bell of its ticket.
+    bells: [AtomicU64; BELLS],
     table: Table<Option<M>, SeatView<Entry<M::Move>, M>, Snapshot<M>, Law<M>, Global>,
     ghost sized: { (table.shared.table_id.words ≡ 2) × (table.shared.table_id.slots ≡ 1) },
 }
 
-// Makes the entry, where there is memory for it.
+// The bell of a ticket.
+fn bell_of(ticket: u64) -> usize
+    ensures { result < 32 }
+{
+    (ticket % BELLS as u64) as usize
+}
+
+// Makes the entry at the machine in the slot, where there is memory for it.
 fn attempt<M: Machine>(
-    machine: M,
+    slot: &mut Option<M>,
     actor: u8,
     seq: u64,
     step: &M::Move,
-) -> (M, Result<(), OutOfMemory>)
+) -> Result<(), OutOfMemory>
+    requires there { IsSome slot.old }
     requires actor { actor ≤ 31 }
-    ensures fixed { M.fixed result.0 ≡ M.fixed machine }
-    ensures history { MatchResult result.1 (λ _. M.history result.0 ≡ M.history machine ++ record { actor = actor; seq = seq; step = step.now } ∷ []) (λ _. M.history result.0 ≡ M.history machine) }
+    ensures stepped { IfSome slot.old (λ x. IsSomeAnd slot.new (λ z. (M.fixed z ≡ M.fixed x) × MatchResult result (λ _. M.history z ≡ M.history x ++ record { actor = actor; seq = seq; step = step.now } ∷ []) (λ _. M.history z ≡ M.history x))) }
 {
-    let mut machine = machine;
-    match machine.reserve() {
-        Ok(()) => {
-            machine.step(actor, seq, step);
-            (machine, Ok(()))
-        }
-        Err(error) => (machine, Err(error)),
-    }
+    let Some(machine) = slot else { unreachable!() };
+    machine.reserve()?;
+    machine.step(actor, seq, step);
+    Ok(())
 }
 
 impl<M: Machine> Turnstile<M> {
@@ -73,7 +83,10 @@ impl<M: Machine> Turnstile<M> {
         };
         slots.push_reserved(Some(machine));
         match Table::new(alloc, &[0, 0], slots, &opening) {
-            Ok((table, seat)) => Ok((Turnstile { table }, Pass { seat })),
+            Ok((table, seat)) => {
+                let bells = array::from_fn(|_| AtomicU64::new(0));
+                Ok((Turnstile { bells, table }, Pass { seat }))
+            }
             Err(Refused { slots: _ }) => Err(OutOfMemory),
         }
     }
@@ -94,7 +107,7 @@ impl<M: Machine> Turnstile<M> {
         false
     }
 
-    // Draws a ticket and waits for its turn: awake for a short time, then asleep until the turn changes.
+    // Draws a ticket and waits for its turn: awake for a short time, then asleep until its bell rings.
     fn wait<R: Wait>(&self, rt: &R, seat: &mut Seat<Option<M>, SeatView<Entry<M::Move>, M>>)
         requires made { seat.old.table_id ≡ self.now.table.shared.table_id }
         requires idle { IsIdle seat.old.me × (1 ≤ seat.old.me.0.share) }
@@ -105,17 +118,27 @@ impl<M: Machine> Turnstile<M> {
         if self.spin(seat, ticket) {
             return;
         }
+        let bell = &self.bells[bell_of(ticket)];
         for _ in rt.forever() {
-            let found = shared.load::<Look>(seat, TURN);
-            if found == ticket {
+            let rung = bell.load(Ordering::SeqCst);
+            if shared.load::<Look>(seat, TURN) == ticket {
                 return;
             }
-            shared.park(rt, TURN, (found & 0xffff_ffff) as u32);
+            bell.park(rt, (rung & 0xffff_ffff) as u32);
         }
         unreachable!()
     }
 
-    // Waits for the turn, takes the machine out, makes the step and puts it back, and serves the next ticket.
+    // Rings the bell of this turn, where somebody has drawn its ticket.
+    fn call(&self, turn: u64) {
+        if self.table.shared.peek(TICKETS) != turn {
+            let bell = &self.bells[bell_of(turn)];
+            bell.fetch_add(1, Ordering::SeqCst);
+            bell.wake_all();
+        }
+    }
+
+    // Waits for the turn, makes the step at the machine where it lies, and serves the next ticket.
     fn take_turn<R: Wait>(
         &self,
         rt: &R,
@@ -133,12 +156,10 @@ impl<M: Machine> Turnstile<M> {
     {
         self.wait(rt, seat);
         let shared = &self.table.shared;
-        let machine = shared.exchange(seat, MACHINE, None).unwrap();
-        let (machine, made) = attempt(machine, actor, seq, step);
-        drop(shared.exchange(seat, MACHINE, Some(machine)));
+        let made = attempt(seat.slot_mut(shared, MACHINE), actor, seq, step);
         shared.load::<Mark<M>>(seat, TURN);
-        shared.fetch_add::<Serve>(seat, TURN, 1);
-        shared.wake_all(TURN);
+        let served = shared.fetch_add::<Serve>(seat, TURN, 1);
+        self.call(served.wrapping_add(1));
         made
     }
 
@@ -209,7 +230,7 @@ impl<M: Machine> Turnstile<M> {
         ensures history { M.history result ≡ M.history (opening self) ++ map entry_at (own pass) }
         ensures fixed { M.fixed result ≡ M.fixed (opening self) }
     {
-        let Turnstile { table } = self;
+        let Turnstile { bells: _, table } = self;
         let Pass { seat } = pass;
         let mut closed = table.close_with(seat);
         let machine = closed.take(MACHINE).unwrap();
