@@ -1,0 +1,4 @@
+pub mod HeadsRight
+pub mod ScriptsRight
+pub mod StepsMade
+pub mod StepsRight
