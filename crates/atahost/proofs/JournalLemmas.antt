@@ -73,10 +73,10 @@ same_port a b p =
 -- bytes that are one script have one list of journals
 pub one_list :
     ((bytes : List ℕ) → (a b : Script) → IsScript bytes a → IsScript bytes b → script_said a ≡ script_said b)
-    → (bytes : List ℕ) → (these those : List (List EntryView)) → AreJournalsOf bytes these → AreJournalsOf bytes those
-    → these ≡ those
-one_list once bytes these those p q =
+    → (rounds : ℕ) → (bytes : List ℕ) → (these those : List (List EntryView)) → AreJournalsOf rounds bytes these
+    → AreJournalsOf rounds bytes those → these ≡ those
+one_list once rounds bytes these those p q =
     let said : script_said p.script ≡ script_said q.script = once bytes p.script q.script p.read q.read in
     let heads : p.script.head ≡ q.script.head =
     same_list port_said same_port p.script.head q.script.head (ap (λ (d : DraftView). d.ports) said) in
-    p.made ∙ (λ i. journals_of (heads i) (said i).steps) ∙ sym q.made
+    p.made ∙ (λ i. journals_of rounds (heads i) (said i).steps) ∙ sym q.made

@@ -1,2 +1,4 @@
-mod JournalLemmas
+pub mod CompletenessLemmas
 pub mod HeadlineLemmas
+mod JournalLemmas
+pub mod WovenLemmas

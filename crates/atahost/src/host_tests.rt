@@ -17,14 +17,14 @@ drive 1 0 0 BETA S2 4096 0 3 0
 1 0 irq
 ";
 
-// The host of this script after its boot, and after its steps.
+// The host of this script after its boot, and after its steps, unsettled.
 fn hosts_of(rt: &impl Abort, alloc: Global) -> Result<(Host, Host), Fail> {
     let script = match read(alloc, SCRIPT.as_bytes()) {
         Ok(script) => script,
         Err(_) => panic!(rt; "the script wasn't read"),
     };
     let booted = boot(alloc, &script)?;
-    let host = replay(alloc, &script)?;
+    let host = replay(alloc, &script, 0)?;
     Ok((booted, host))
 }
 

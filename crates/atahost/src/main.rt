@@ -1,22 +1,31 @@
-//! The program: `atahost replay` reads a script from standard input and writes the journals of its
-//! ports to standard output. Its exit status tells how that ended; where it isn't 0, a line on standard
-//! error tells it too.
+//! The program: `atahost replay` reads a script from standard input, settles its ports, and writes their
+//! journals to standard output; `atahost run` does so with each actor on a thread of its own. `--rounds R`
+//! behind it names the most rounds of settling. Its exit status tells how that ended; where it isn't 0, a line
+//! on standard error tells it too.
 #![tactic(auto)]
 
+mod command;
 mod laws;
 mod replay;
+mod running;
 mod status;
 mod top;
+mod versions;
 
 use crate::status::Status;
 use crate::top::atahost;
 use ata_io::{StdSink, StdSource};
+use port_threads::NoGate;
+use std::alloc::Global;
+use std::io::{Read, Write};
 use std::process::ExitCode;
+use std::sync::Wait;
+use std::thread::Threads;
 use std::{env, io};
 
 fn main(rt: HostRuntime) -> ExitCode {
     let status = match words(&rt) {
-        Ok(words) => run(&rt, &words),
+        Ok(words) => run(&rt, rt.alloc(), rt.stdin(), rt.stdout(), &words),
         Err(error) if error.kind() == io::ErrorKind::OutOfMemory => Status::OutOfMemory,
         Err(_) => Status::Usage,
     };
@@ -35,16 +44,21 @@ fn words(rt: &HostRuntime) -> io::Result<Vec<String>> {
     Ok(words)
 }
 
-// Runs over the standard streams, and hands on what waits to be written.
-fn run(rt: &HostRuntime, words: &[String]) -> Status {
-    let alloc = rt.alloc();
-    let Ok(mut source) = StdSource::new(alloc, rt.stdin()) else {
+// Runs over these streams, and hands on what waits to be written.
+fn run<R: Threads + Wait + Sync, I: Read + Drop, O: Write + Drop>(
+    rt: &R,
+    alloc: Global,
+    input: I,
+    output: O,
+    words: &[String],
+) -> Status {
+    let Ok(mut source) = StdSource::new(alloc, input) else {
         return Status::OutOfMemory;
     };
-    let Ok(mut sink) = StdSink::new(alloc, rt.stdout()) else {
+    let Ok(mut sink) = StdSink::new(alloc, output) else {
         return Status::OutOfMemory;
     };
-    let status = atahost(alloc, words, &mut source, &mut sink);
+    let status = atahost(rt, alloc, words, &mut source, &mut sink, &NoGate);
     match sink.flush() {
         Ok(()) => status,
         Err(_) => Status::WriteFault,

@@ -1,12 +1,16 @@
 ghost use Rattle.std.specs.Prelude.{◌≡◌, IfOk, IfErr, OnOk};
 ghost use Rattle.std.specs.Io.KnownBytes.{IsAtEnd};
+ghost use Rattle.atahost.specs.Completeness.{EndsCalmly, HasCalmScript, HasScript, IsWhole, Stays};
 ghost use Rattle.atahost.specs.Headline.{Replays};
+ghost use Rattle.atahost.specs.Journals.{AreJournalsOf};
 ghost use Rattle.atahost.specs.Printing.{Prints};
 ghost use Rattle.atahost.specs.Refusals.{Refuses, WasRead};
 ghost use Rattle.atahost.specs.Statuses.{read_faults_after, write_faults_after};
 ghost use Rattle.port_core.specs.Hosts.{journals_in, lives_of};
 ghost use Rattle.port_core.specs.Text.{texts_of};
+ghost use Rattle.port_core.specs.Told.{AreInRange};
 
+use crate::laws::calm_scripts_end_calmly;
 use crate::status::Status;
 use ata_io::{ReadError, Sink, Source, read_all};
 use ata_script::{Script, ScriptError, read};
@@ -17,34 +21,48 @@ use std::alloc::Global;
 /// The most bytes that a script may have.
 const MOST_BYTES: usize = 4_194_304;
 
-/// Replays the script that `source` gives, and writes the journals of its ports to `sink`, in their order.
-/// The rounds of settling have no effect yet. `Done` and `Left` come where all was read and printed, `Left`
-/// exactly where commands are live after the last step; `BadScript` where the bytes, read to their end,
+/// Replays the script that `source` gives, settles each port with at most `rounds` rounds, and writes the
+/// journals of the ports to `sink`, in their order. `Done` and `Left` come where all was read and printed,
+/// `Left` exactly where commands are live after settling; `BadScript` where the bytes, read to their end,
 /// aren't a script, with the line and rule of their first fault; `TooLong` exactly where more than
 /// 4,194,304 bytes came before a read failed or memory was wanted; `ReadFault` and `WriteFault` where a
 /// read or a write failed, and no failed one is passed over. Want of memory comes before the first line
-/// is written, or not at all.
+/// is written, or not at all. Where the bytes are a script and nothing fails, all is printed or memory is
+/// wanted; where moreover no step of the script disturbs a port, and there are as many rounds as commands
+/// accepted at a port, none is live and each is answered `ok`.
 pub fn replay_all<S: Source, K: Sink>(
     alloc: Global,
     source: &mut S,
     sink: &mut K,
     rounds: u32,
 ) -> Status
-    ensures replays { Replays S.left S.fault_count K.written K.fault_count source.old source.new sink.old sink.new result }
+    ensures replays { Replays (AreJournalsOf rounds) S.left S.fault_count K.written K.fault_count source.old source.new sink.old sink.new result }
+    ensures no_usage { result ≡ Status.Usage → ⊥ }
+    ensures complete { HasScript (S.left source.old) → Stays (S.fault_count source.old) (S.fault_count source.new)
+        → Stays (K.fault_count sink.old) (K.fault_count sink.new) → IsWhole result }
+    ensures calm { (calm : HasCalmScript rounds (S.left source.old)) → EndsCalmly calm result }
+{
+    calm_scripts_end_calmly();
+    play(alloc, source, sink, rounds)
+}
+
+// Reads, replays and prints.
+fn play<S: Source, K: Sink>(alloc: Global, source: &mut S, sink: &mut K, rounds: u32) -> Status
+    ensures replays { Replays (AreJournalsOf rounds) S.left S.fault_count K.written K.fault_count source.old source.new sink.old sink.new result }
     ensures no_usage { result ≡ Status.Usage → ⊥ }
 {
     let script = match read_script(alloc, source) {
         Ok(script) => script,
         Err(status) => return status,
     };
-    match replay(alloc, &script) {
+    match replay(alloc, &script, rounds) {
         Ok(host) => print(&host, sink),
         Err(_) => Status::OutOfMemory,
     }
 }
 
 // Reads the script, to the end of the source.
-fn read_script<S: Source>(alloc: Global, source: &mut S) -> Result<Script, Status>
+pub(crate) fn read_script<S: Source>(alloc: Global, source: &mut S) -> Result<Script, Status>
     ensures script { IfOk result (λ script. WasRead (S.left source.old) script) }
     ensures all_read { OnOk result (IsAtEnd (S.left source.new)) }
     ensures faultless { OnOk result (S.fault_count source.new ≡ S.fault_count source.old) }
@@ -66,10 +84,11 @@ fn read_script<S: Source>(alloc: Global, source: &mut S) -> Result<Script, Statu
 }
 
 // Prints the ports, and tells how many of their commands are live.
-fn print<K: Sink>(host: &Host, sink: &mut K) -> Status
+pub(crate) fn print<K: Sink>(host: &Host, sink: &mut K) -> Status
     ensures printed { Prints (K.written sink.old) (K.written sink.new)
         (texts_of (journals_in host.now)) (lives_of (journals_in host.now)) result }
     ensures faults { K.fault_count sink.new ≡ write_faults_after result (K.fault_count sink.old) }
+    ensures ranges { AreInRange (journals_in host.now) }
 {
     if put_host(host, sink).is_err() {
         return Status::WriteFault;

@@ -1,40 +1,49 @@
-ghost use Rattle.std.specs.Prelude.{◌≡◌, ◌↔◌, IsTrue};
+ghost use Rattle.std.specs.Prelude.{◌≡◌, ◌↔◌, ℕ, None, Some};
+ghost use Rattle.atahost.specs.Completeness.{EndsCalmly, HasCalmScript, HasScript, IsWhole, Stays};
 ghost use Rattle.atahost.specs.Headline.{Replays};
-ghost use Rattle.atahost.specs.Words.{AreWords};
+ghost use Rattle.atahost.specs.Journals.{AreJournalsOf};
+ghost use Rattle.atahost.specs.Words.{asked_by};
+ghost use Rattle.atahost.specs.Woven.{AreWovenOf};
 
+use crate::command::{Command, command_of};
 use crate::replay::replay_all;
+use crate::running::run_all;
 use crate::status::Status;
 use ata_io::{Sink, Source};
+use port_threads::Gate;
 use std::alloc::Global;
+use std::sync::Wait;
+use std::thread::Threads;
 
-/// The rounds of settling where the words name no number.
-const ROUNDS: u32 = 200_000;
-
-/// All that the program does, given the words after its name. `Usage` exactly where they aren't the
-/// one word `replay`; then nothing is read or written. Every other status is that of `replay_all`.
-pub fn atahost<S: Source, K: Sink>(
+/// All that the program does, given the words after its name. `Usage` exactly where they ask for no
+/// command; then nothing is read or written. Every other status is that of the command: of `replay_all` or
+/// `run_all`, with the rounds that the words name, or 200,000 where they name none. `gate` is called before and
+/// after each step of an actor of `run`, and no clause depends on it. A run waits for turns, so nothing is said
+/// of when the call returns.
+pub fn atahost<R: Threads + Wait + Sync, S: Source, K: Sink, G: Gate + Sync>(
+    rt: &R,
     alloc: Global,
     words: &[String],
     source: &mut S,
     sink: &mut K,
+    gate: &G,
 ) -> Status
-    ensures usage { result ≡ Status.Usage ↔ (AreWords words.now → ⊥) }
+    ensures usage { result ≡ Status.Usage ↔ asked_by words.now ≡ None }
     ensures nothing_read { result ≡ Status.Usage → source.new ≡ source.old }
-    ensures replays { Replays S.left S.fault_count K.written K.fault_count source.old source.new sink.old sink.new result }
+    ensures nothing_written { result ≡ Status.Usage → sink.new ≡ sink.old }
+    ensures replays { (rounds : ℕ) → asked_by words.now ≡ Some (Command.Replay rounds)
+        → Replays (AreJournalsOf rounds) S.left S.fault_count K.written K.fault_count source.old source.new sink.old sink.new result }
+    ensures runs { (rounds : ℕ) → asked_by words.now ≡ Some (Command.Run rounds)
+        → Replays (AreWovenOf rounds) S.left S.fault_count K.written K.fault_count source.old source.new sink.old sink.new result }
+    ensures complete { (result ≡ Status.Usage → ⊥) → HasScript (S.left source.old)
+        → Stays (S.fault_count source.old) (S.fault_count source.new) → Stays (K.fault_count sink.old) (K.fault_count sink.new)
+        → IsWhole result }
+    ensures calm { (rounds : ℕ) → asked_by words.now ≡ Some (Command.Replay rounds)
+        → (calm : HasCalmScript rounds (S.left source.old)) → EndsCalmly calm result }
 {
-    if are_words(words) {
-        replay_all(alloc, source, sink, ROUNDS)
-    } else {
-        Status::Usage
-    }
-}
-
-// Whether the words are the one word `replay`.
-fn are_words(words: &[String]) -> bool
-    ensures { IsTrue result ↔ AreWords words.now }
-{
-    match words {
-        [word] => word.as_str() == "replay",
-        _ => false,
+    match command_of(words) {
+        Some(Command::Replay { rounds }) => replay_all(alloc, source, sink, rounds),
+        Some(Command::Run { rounds }) => run_all(rt, alloc, source, sink, rounds, gate),
+        None => Status::Usage,
     }
 }

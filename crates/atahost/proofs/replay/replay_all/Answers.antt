@@ -1,15 +1,11 @@
-use Rattle.port_core.specs.Hosts.{journals_in}
-use Rattle.atahost.proofs.HeadlineLemmas.{printed, refused}
+use Rattle.atahost.proofs.CompletenessLemmas.{complete}
 use Rattle.atahost.proofs.replay.replay_all.Goals as goal
 
-pub returns-in-Ok-replay-clause-replays : goal.returns-in-Ok-replay-clause-replays
-returns-in-Ok-replay-clause-replays g c =
-    printed g.S.Source.left g.S.Source.fault_count g.K.Sink.written g.K.Sink.fault_count _ _ _ _ _
-    c.in-Ok.script (journals_in c.in-Ok-replay.host)
-    (record { read = c.in-Ok.ensures.script; made = c.in-Ok-replay.ensures.journals })
-    c.in-Ok.ensures.all_read c.in-Ok.ensures.faultless c.print.ensures.printed c.print.ensures.faults
+pub returns-clause-complete : goal.returns-clause-complete
+returns-clause-complete g c script reads writes =
+    complete _ g.S.Source.left g.S.Source.fault_count g.K.Sink.written g.K.Sink.fault_count _ _ _ _ _ c.play.ensures.replays
+    c.play.ensures.no_usage script reads writes
 
-pub returns-in-Err-clause-replays : goal.returns-in-Err-clause-replays
-returns-in-Err-clause-replays g c =
-    refused g.S.Source.left g.S.Source.fault_count g.K.Sink.written g.K.Sink.fault_count _ _ _ _
-    c.in-Err.ensures.refused c.in-Err.ensures.faults
+pub returns-clause-calm : goal.returns-clause-calm
+returns-clause-calm g c calm =
+    c.calm_scripts_end_calmly.ensures _ _ _ _ _ _ c.play.ensures.replays.told calm
