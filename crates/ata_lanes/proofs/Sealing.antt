@@ -1,5 +1,7 @@
 -- The last byte of a page.
-use Rattle.std.proofs.Common.{◌≡◌, ℕ, suc, zero, ◌+◌, ◌-◌, ◌%◌, List, [], ◌∷◌, ◌++◌, length, take, set, refl, ap, arith, sum}
+use Rattle.std.proofs.Common.{◌≡◌, ℕ, suc, zero, ◌+◌, ◌-◌, ◌%◌, List, [], ◌∷◌, ◌++◌, length, take, set, get_or, refl, sym, ap, ◌∙◌, zero-add, arith, sum}
+use Rattle.std.proofs.Math.Seq.{take-length}
+use Rattle.std.proofs.lemmas.List.{take_more}
 use Rattle.std.proofs.lemmas.List.Sums.{sum_by-append}
 use Rattle.ata_lanes.specs.Sum.{byte_sum, sealed}
 
@@ -16,3 +18,11 @@ set_last [] n v size = absurd (omega (arith, size))
 set_last (x ∷ []) zero v size = refl
 set_last (x ∷ y ∷ xs) zero v size = absurd (omega (arith, size))
 set_last (x ∷ xs) (suc n) v size = ap (λ ys. x ∷ ys) (set_last xs n v (omega (arith, size)))
+
+-- the whole sum is that of the bytes before the last, and the last
+pub sum_last : (xs : List ℕ) → length xs ≡ 512 → sum xs ≡ sum (take 511 xs) + get_or xs 511 0
+sum_last xs size =
+    let all : take (511 + 1) xs ≡ xs = ap (λ n. take n xs) (sym size) ∙ take-length xs in
+    let more = take_more xs 511 0 (omega (arith, size)) in
+    let parts = sum_by-append (λ x. x) (take 511 xs) (get_or xs 511 0 ∷ []) in
+    ap sum (sym all ∙ more) ∙ parts ∙ ap (λ n. sum (take 511 xs) + n) (zero-add (get_or xs 511 0))

@@ -1,12 +1,21 @@
-ghost use Rattle.std.specs.Prelude.{◌≡◌, ◌≤◌, length, sum, take};
+ghost use Rattle.std.specs.Prelude.{◌≡◌, take};
 ghost use Rattle.ata_lanes.specs.Sum.{byte_sum, sealed};
+
+use std::simd::prelude::*;
+
+// How many bytes are added at once.
+const LANES: usize = 64;
 
 /// The sum of all bytes of a page modulo 256. It is 0 for a whole IDENTIFY DEVICE page (ACS-3, word 255) and a
 /// whole NCQ Command Error log page (ACS-3, byte 511).
 pub fn sum512(page: &[u8; 512]) -> u8
     ensures { result ≡ byte_sum page.now }
 {
-    (total(page) % 256) as u8
+    let mut lanes = u8x64::splat(0);
+    for chunk in 0..8 {
+        lanes += u8x64::from_slice(&page[LANES * chunk..]);
+    }
+    lanes.reduce_sum()
 }
 
 /// Seals a page: its last byte becomes the one that makes the sum of all its bytes 0 modulo 256, the others stay.
@@ -14,13 +23,5 @@ pub fn seal(page: &mut [u8; 512])
     ensures page { page.new ≡ sealed (take 511 page.old) }
     ensures sum { byte_sum page.new ≡ 0 }
 {
-    let sum = total(&page[..511]) % 256;
-    page[511] = 0u8.wrapping_sub(sum as u8);
-}
-
-fn total(bytes: &[u8]) -> u32
-    requires { length bytes.now ≤ 512 }
-    ensures { result ≡ sum bytes.now }
-{
-    bytes.iter().map(|byte| *byte as u32).sum()
+    page[511] = page[511].wrapping_sub(sum512(page));
 }

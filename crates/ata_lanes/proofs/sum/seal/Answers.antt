@@ -1,13 +1,16 @@
-use Rattle.std.proofs.Common.{◌∙◌, ◌+◌, ◌-◌, ◌%◌, ◌++◌, ◌∷◌, [], take, ap, zero-add}
+use Rattle.std.proofs.Common.{◌≡◌, ◌∙◌, ◌+◌, ◌-◌, ◌%◌, ◌++◌, ◌∷◌, [], get_or, take, ap, arith}
 use Rattle.ata_lanes.specs.Sum.{byte_sum}
-use Rattle.ata_lanes.proofs.Sealing.{byte_sum-sealed, set_last}
+use Rattle.ata_lanes.proofs.Sealing.{byte_sum-sealed, set_last, sum_last}
 use Rattle.ata_lanes.proofs.sum.seal.Goals as goal
 
 page_is : goal.returns-clause-page
 page_is c =
-    set_last c.args.page.now 511 ((0 + (256 - c.total-sum.result % 256)) % 256) c.told-page
-    ∙ ap (λ s. take 511 c.args.page.now ++ (0 + (256 - s % 256)) % 256 ∷ []) c.total-sum.ensures
-    ∙ ap (λ s. take 511 c.args.page.now ++ s % 256 ∷ []) (zero-add (256 - byte_sum (take 511 c.args.page.now)))
+    let page = c.args.page.now in
+    let whole = sum_last page c.told-page in
+    let last : (get_or page 511 0 + (256 - c.sum512.result)) % 256 ≡ (256 - byte_sum (take 511 page)) % 256 =
+    omega (arith, whole, c.sum512.ensures) in
+    set_last page 511 ((get_or page 511 0 + (256 - c.sum512.result)) % 256) c.told-page
+    ∙ ap (λ b. take 511 page ++ b ∷ []) last
 
 pub returns-clause-page : goal.returns-clause-page
 returns-clause-page c = page_is c
