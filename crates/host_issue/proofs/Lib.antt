@@ -1,2 +1,3 @@
 mod AbortLemmas
 mod AlwaysLemmas
+mod FindingLemmas

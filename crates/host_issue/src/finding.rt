@@ -1,8 +1,7 @@
-ghost use Rattle.std.specs.Prelude.{◌≡◌, ◌&&◌, ◌↔◌, IsTrue, IsBitSet};
+ghost use Rattle.std.specs.Prelude.{◌≡◌};
 ghost use Rattle.host_issue.specs.Finding.{IsLeastTag, is_answerable, is_awaited, waiting_of};
-ghost use Rattle.host_tags.specs.Slots.{is_unowned};
 
-use ata_base::{Ms, TAG_COUNT, Tag};
+use ata_base::{Ms, Tag};
 use hba_model::Hba;
 use host_tags::{InFlight, Slots};
 
@@ -11,21 +10,12 @@ use host_tags::{InFlight, Slots};
 pub fn next_done(slots: &Slots, hba: &Hba) -> Option<Tag>
     ensures { IsLeastTag (is_answerable slots.now hba.now.tags) result }
 {
-    let done = hba.done();
-    for number in 0..TAG_COUNT as u8 {
-        let tag = Tag::at(number);
-        if is_unowned(slots.at(tag)) && has_bit(done, tag) {
-            return Some(tag);
-        }
+    let answerable = slots.busy() & !slots.owned() & hba.done();
+    if answerable == 0 {
+        None
+    } else {
+        Some(Tag::at(answerable.trailing_zeros() as u8))
     }
-    None
-}
-
-/// Whether a tag's bit is set in a mask.
-fn has_bit(mask: u32, tag: Tag) -> bool
-    ensures { IsTrue result ↔ IsBitSet mask tag }
-{
-    mask >> tag.get() & 1 == 1
 }
 
 /// The least tag for whose issue recovery waits at the time `now`: it is in flight, not owned, and not due. On a port
@@ -44,16 +34,6 @@ fn first_awaited(slots: &[Option<InFlight>], now: Ms, drained: bool) -> Option<u
     ensures { result ≡ waiting_of now.n drained slots.now }
 {
     slots.iter().position(|slot| is_awaited(slot, now, drained))
-}
-
-/// Whether an issue that recovery doesn't own is in a slot.
-fn is_unowned(slot: &Option<InFlight>) -> bool
-    ensures { result ≡ is_unowned slot.now }
-{
-    match slot {
-        Some(f) => !f.owned,
-        None => false,
-    }
 }
 
 /// Whether recovery waits for the issue in a slot.

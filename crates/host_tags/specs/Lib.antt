@@ -1,4 +1,5 @@
 pub mod EachFlight
 pub mod Marks
+pub mod Masks
 pub mod Numbers
 pub mod Slots

@@ -1,8 +1,9 @@
-ghost use Rattle.std.specs.Prelude.{◌≡◌, ℕ, ◌↔◌, false, length, IsTrue, IsBitSet, IfSome, IfNone, is_none, map, option_map, take, position, if◌then◌else◌};
-ghost use Rattle.host_tags.specs.Numbers.{is_issue, without};
+ghost use Rattle.std.specs.Prelude.{◌≡◌, ℕ, ◌↔◌, Bool, false, List, Option, length, slice_set, IsTrue, IsBitSet, IfSome, IfNone, map, option_map};
+ghost use Rattle.ata_base.specs.Masks.{mask_of};
+ghost use Rattle.host_tags.specs.Numbers.{is_issue, left, without};
 
 use crate::in_flight::InFlight;
-use ata_base::{IssueNo, Kinds, Place, TAG_COUNT, Tag, mask_of};
+use ata_base::{IssueNo, Kinds, Place, TAG_COUNT, Tag};
 use std::marker::Model;
 
 /// What is in flight under each tag of a port.
@@ -10,23 +11,40 @@ use std::marker::Model;
 #[derive(Clone, Copy, Debug, PartialEq, Eq)]
 pub struct Slots {
     flights: [Option<InFlight>; TAG_COUNT],
+    busy: u32,
+    owned: u32,
+    queued: u32,
 }
 
 impl Model for Slots {
-    ghost use Rattle.std.specs.Prelude.{◌≡◌, List, Option, length};
+    ghost use Rattle.std.specs.Prelude.{List, Option};
     ghost use Rattle.host_tags.specs.declared.in_flight.InFlight.{InFlight};
+    ghost use Rattle.host_tags.specs.Slots.{busy_mask, owned_mask, queued_mask};
+    ghost use Rattle.host_tags.specs.Masks.{AreMasks};
 
     ghost Value = { List (Option InFlight) };
 
     ghost view = { λ s. s.flights };
 
-    ghost invariant = { λ s. length s.flights ≡ 32 };
+    ghost invariant = { λ s. AreMasks s.flights s.busy s.owned s.queued };
 
-    ghost inverse = { λ slots. record { flights = slots } };
+    ghost inverse = { λ slots. record {
+      flights = slots;
+      busy = busy_mask slots;
+      owned = owned_mask slots;
+      queued = queued_mask slots;
+    } };
+
+    ghost inverse_ok = { λ s h i. record {
+      flights = s.flights;
+      busy = h.of_busy i;
+      owned = h.of_owned i;
+      queued = h.of_queued i;
+    } };
 }
 
 impl Slots {
-    ghost use Rattle.host_tags.specs.Slots.{no_flights, flight_at, is_busy, is_owned, free_below, busy_mask, owned_mask, put, released, marked};
+    ghost use Rattle.host_tags.specs.Slots.{no_flights, flight_at, is_busy, is_owned, is_queued, free_below, busy_mask, owned_mask, queued_mask, put, released, marked};
     ghost use Rattle.host_tags.specs.Marks.{condemned, expired};
 
     /// All tags are free.
@@ -35,6 +53,9 @@ impl Slots {
     {
         Slots {
             flights: [None; TAG_COUNT],
+            busy: 0,
+            owned: 0,
+            queued: 0,
         }
     }
 
@@ -54,16 +75,22 @@ impl Slots {
     pub fn put(&mut self, tag: Tag, flight: InFlight)
         ensures { self.new ≡ put tag flight self.old }
     {
+        let (owned, queued) = (flight.owned, flight.queued);
         self.flights[tag.get() as usize] = Some(flight);
+        self.busy = with_bit(self.busy, tag, true);
+        self.owned = with_bit(self.owned, tag, owned);
+        self.queued = with_bit(self.queued, tag, queued);
     }
 
     /// The lowest free tag below `limit`, None exactly where no tag below `limit` is free.
     pub fn free_below(&self, limit: u8) -> Option<Tag>
         ensures { result ≡ free_below limit self.now }
     {
-        match first_free(&self.flights, usize::from(limit)) {
-            Some(at) => Some(Tag::at(at as u8)),
-            None => None,
+        let at = self.busy.trailing_ones() as u8;
+        if at < limit && at < TAG_COUNT as u8 {
+            Some(Tag::at(at))
+        } else {
+            None
         }
     }
 
@@ -97,9 +124,10 @@ impl Slots {
         requires unowned { is_owned self.old tag ≡ false }
         ensures { self.new ≡ marked (condemned kinds) tag self.old }
     {
-        if let Some(f) = &mut self.flights[tag.get() as usize] {
+        if let Some(mut f) = self.get(tag) {
             f.owned = true;
             f.kinds = kinds;
+            self.put(tag, f);
         }
     }
 
@@ -107,8 +135,9 @@ impl Slots {
     pub fn expire_mark(&mut self, tag: Tag)
         ensures { self.new ≡ marked expired tag self.old }
     {
-        if let Some(f) = &mut self.flights[tag.get() as usize] {
+        if let Some(mut f) = self.get(tag) {
             f.expired = true;
+            self.put(tag, f);
         }
     }
 
@@ -121,6 +150,9 @@ impl Slots {
         let at = tag.get() as usize;
         let flight = self.flights[at];
         self.flights[at] = None;
+        self.busy = with_bit(self.busy, tag, false);
+        self.owned = with_bit(self.owned, tag, false);
+        self.queued = with_bit(self.queued, tag, false);
         flight.unwrap()
     }
 
@@ -139,8 +171,19 @@ impl Slots {
     pub fn release_issue(&mut self, number: IssueNo)
         ensures { self.new ≡ without number.n self.old }
     {
-        for tag in 0..TAG_COUNT {
-            leave(&mut self.flights[tag], number);
+        let _ = &self.flights;
+        for tag in 0..TAG_COUNT as u8 {
+            self.leave(Tag::at(tag), number);
+        }
+    }
+
+    /// The issue of this number leaves the tag, if it is under it.
+    fn leave(&mut self, tag: Tag, number: IssueNo)
+        ensures slots { self.new ≡ slice_set self.old tag (left number.n (flight_at self.old tag)) }
+        ensures size { length self.old ≡ 32 }
+    {
+        if is_issue(self.at(tag), number) {
+            let _ = self.release(tag);
         }
     }
 
@@ -149,7 +192,7 @@ impl Slots {
         ensures value { result ≡ busy_mask self.now }
         ensures bits { (t : ℕ) → IsBitSet result t ↔ IsTrue (is_busy self.now t) }
     {
-        mask_of(&self.flights, |slot| slot.is_some())
+        self.busy
     }
 
     /// The tags whose issues are owned by recovery: bit t stands for tag t.
@@ -157,24 +200,26 @@ impl Slots {
         ensures value { result ≡ owned_mask self.now }
         ensures bits { (t : ℕ) → IsBitSet result t ↔ IsTrue (is_owned self.now t) }
     {
-        mask_of(&self.flights, |slot| slot.is_some_and(|f| f.owned))
+        self.owned
+    }
+
+    /// The tags whose issues are queued: bit t stands for tag t.
+    pub fn queued(&self) -> u32
+        ensures value { result ≡ queued_mask self.now }
+        ensures bits { (t : ℕ) → IsBitSet result t ↔ IsTrue (is_queued self.now t) }
+    {
+        self.queued
     }
 }
 
-/// The first of these slots that is free, among `limit` of them.
-fn first_free(slots: &[Option<InFlight>], limit: usize) -> Option<usize>
-    ensures { result ≡ position is_none (take limit slots.now) }
+/// A mask of slots by a test, once a slot stands under the tag of which the test is told.
+fn with_bit(mask: u32, tag: Tag, passes: bool) -> u32
+    ensures { (test : Option InFlight → Bool) (slots : List (Option InFlight)) (slot : Option InFlight)
+        → length slots ≡ 32 → mask_of test slots ≡ mask → test slot ≡ passes
+        → mask_of test (slice_set slots tag slot) ≡ result }
 {
-    slots.iter().take(limit).position(|slot| slot.is_none())
-}
-
-/// The issue of this number leaves a slot, if it is there.
-fn leave(slot: &mut Option<InFlight>, number: IssueNo)
-    ensures { slot.new ≡ (if is_issue number.n slot.old then None else slot.old) }
-{
-    if is_issue(slot, number) {
-        *slot = None;
-    }
+    let bit = 1 << tag.get();
+    if passes { mask | bit } else { mask & !bit }
 }
 
 /// Whether the issue of this number is in a slot.

@@ -1,13 +1,16 @@
-use Rattle.std.proofs.Common.{◌<◌, length, arith, length-set}
+use Rattle.std.proofs.Common.{◌∙◌, ◌<◌, None, length, arith, length-set}
 use Rattle.std.proofs.lemmas.List.{get_or_default}
 use Rattle.std.proofs.lemmas.List.Edits.{map_over_more}
+use Rattle.std.proofs.lemmas.Option.{unwrap_or-slice_get}
+use Rattle.host_tags.specs.Numbers.{left}
+use Rattle.host_tags.specs.Slots.{flight_at}
 use Rattle.host_tags.proofs.slots.Slots.release_issue.Goals as goal
 
 pub loop-tag-preserved : goal.loop-tag-preserved
 loop-tag-preserved c =
-    let within : c.loop-tag.tag < length c.self.inside.flights = omega (arith, c.loop-tag.invariant.0) in
-    let still_within : c.loop-tag.tag < length c.loop-tag.self-inside.flights = omega (arith, c.loop-tag.invariant.1) in (
+    let within : c.loop-tag.tag < length c.args.self.now = omega (arith, c.loop-tag.invariant.0) in
+    let still : c.loop-tag.tag < length c.loop-tag.self = omega (arith, c.loop-tag.invariant.1) in (
       c.loop-tag.invariant.0,
-      simp length-set c.loop-tag.invariant.1,
-      rw c.leave.ensures (map_over_more _ _ _ c.loop-tag.tag _ within c.loop-tag.invariant.2 (get_or_default _ c.loop-tag.tag _ _ still_within)),
+      rw c.leave.ensures.slots (simp length-set c.loop-tag.invariant.1),
+      rw c.leave.ensures.slots (rw c.at.ensures (map_over_more (left c.args.number.n) c.args.self.now c.loop-tag.self c.loop-tag.tag (flight_at c.loop-tag.self c.loop-tag.tag) within c.loop-tag.invariant.2 (unwrap_or-slice_get c.loop-tag.self c.loop-tag.tag None ∙ get_or_default c.loop-tag.self c.loop-tag.tag None (flight_at c.loop-tag.self c.loop-tag.tag) still))),
     )
