@@ -22,14 +22,16 @@ pub(crate) struct Draft {
 }
 
 impl Draft {
-    /// A script of this version, before its second line.
-    pub(crate) fn new(alloc: Global, version: u8) -> Self
+    /// A script of this version, before its second line. Memory is asked for ahead for so many steps.
+    pub(crate) fn new(alloc: Global, version: u8, steps_ahead: usize) -> Self
         ensures { draft_said result ≡ begun version }
     {
+        let mut steps = Steps::new(alloc);
+        steps.make_room(steps_ahead);
         Draft {
             version,
             head: Head::new(alloc),
-            steps: Steps::new(alloc),
+            steps,
         }
     }
 

@@ -19,6 +19,9 @@ use crate::step_words::{actor_no, port_no, step};
 use ata_trace::{Words, same};
 use std::alloc::Global;
 
+/// The fewest bytes of a line that is a step, with its line feed.
+const LEAST_STEP: usize = 8;
+
 /// Reads a script of at most 4,194,304 bytes. `Fault` exactly where a rule is broken, with the first
 /// line at fault and the least rule that it breaks; `Memory` where what it says found no room.
 pub fn read(alloc: Global, bytes: &[u8]) -> Result<Script, ScriptError>
@@ -34,7 +37,8 @@ pub fn read(alloc: Global, bytes: &[u8]) -> Result<Script, ScriptError>
         Ok(version) => version,
         Err(rule) => return Err(ScriptError::Fault { line: 1, rule }),
     };
-    let draft = later_lines(alloc, Draft::new(alloc, version), &mut lines)?;
+    let ahead = bytes.len() / LEAST_STEP;
+    let draft = later_lines(alloc, Draft::new(alloc, version, ahead), &mut lines)?;
     Ok(Script {
         version: draft.version,
         head: draft.head,

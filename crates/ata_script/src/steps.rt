@@ -31,6 +31,13 @@ impl Steps {
         }
     }
 
+    /// Asks for memory for so many steps ahead of need. Where it is refused, `push` asks for what each step needs.
+    pub(crate) fn make_room(&mut self, steps: usize)
+        ensures { self.new ≡ self.old }
+    {
+        let _ = self.list.reserve(steps);
+    }
+
     /// Appends a step. Where memory is wanted, nothing changes.
     pub fn push(&mut self, step: (ActorNo, PortNo, Step)) -> Result<(), OutOfMemory>
         ensures ok { OnOk result (self.new ≡ self.old ++ step ∷ []) }

@@ -1,8 +1,9 @@
-ghost use Rattle.std.specs.Prelude.{◌≡◌, ◌≤◌, [], length, IfOk, OnOk};
+ghost use Rattle.std.specs.Prelude.{◌≡◌, ◌≤◌, ◌==◌, ◌∷◌, [], filter, length, IfOk, OnOk};
 ghost use Rattle.ata_trace.specs.declared.who.Who.TheVariants.{Actor};
 ghost use Rattle.host_core.specs.Calm.{AreCalmSteps, AreWellEnded, HaveAtMost};
 ghost use Rattle.host_core.specs.Hosting.{IsHostOf, IsPlayed};
 ghost use Rattle.port_core.specs.Hosts.{at_port, journals_in, stepped, with_room};
+ghost use Rattle.port_rules.specs.Boot.{boot_entry};
 
 use crate::settling::settle_all;
 use crate::turns::Turns;
@@ -18,7 +19,7 @@ use std::alloc::Global;
 pub fn boot(alloc: Global, script: &Script) -> Result<Host, OutOfMemory>
     ensures { IfOk result (λ host. IsHostOf 0 script.now.head [] host) }
 {
-    started(alloc, script.head.items())
+    started(alloc, script.head.items(), script.steps.items())
 }
 
 /// All ports of a script after its steps: each took those at its number in the order of their lines, for
@@ -35,15 +36,42 @@ pub fn replay(alloc: Global, script: &Script, rounds: u32) -> Result<Host, OutOf
     Ok(host)
 }
 
-// Ports with these heads, each booted.
+/// Starts a port, as `Port::start` does, and asks for memory ahead for those of these steps that are its.
+pub fn start_port(
+    alloc: Global,
+    number: PortNo,
+    head: &PortHead,
+    steps: &[(ActorNo, PortNo, Step)],
+) -> Result<Port, OutOfMemory>
+    ensures number { IfOk result (λ p. p.number ≡ number) }
+    ensures head { IfOk result (λ p. p.head ≡ head.now) }
+    ensures entries { IfOk result (λ p. p.entries ≡ boot_entry head.now ∷ []) }
+{
+    let mut port = Port::start(alloc, number, head)?;
+    port.make_room(steps_at(steps, number));
+    Ok(port)
+}
+
+// How many of these steps are at the port of this number.
+fn steps_at(steps: &[(ActorNo, PortNo, Step)], number: PortNo) -> usize
+    ensures { result ≡ length (filter (λ taken. taken.1 == number) steps.now) }
+{
+    steps.iter().filter(|taken| taken.1 == number).count()
+}
+
+// Ports with these heads, each booted. Memory is asked for ahead for these steps.
 #[tactic(auto, using(crate::proofs::TakenSteps::host_more, crate::proofs::TakenSteps::host_count))]
-fn started(alloc: Global, heads: &[PortHead]) -> Result<Host, OutOfMemory>
+fn started(
+    alloc: Global,
+    heads: &[PortHead],
+    steps: &[(ActorNo, PortNo, Step)],
+) -> Result<Host, OutOfMemory>
     requires { length heads.now ≤ 8 }
     ensures { IfOk result (λ host. IsPlayed heads.now [] host) }
 {
     let mut host = Host::new(alloc);
     for number in 0..heads.len() {
-        let port = Port::start(alloc, PortNo::at(number as u8), &heads[number])?;
+        let port = start_port(alloc, PortNo::at(number as u8), &heads[number], steps)?;
         host.push(port)?;
     }
     Ok(host)
@@ -60,7 +88,7 @@ fn hosted(
     requires { length heads.now ≤ 8 }
     ensures { IfOk result (λ host. IsPlayed heads.now steps.now host) }
 {
-    let mut host = started(alloc, heads)?;
+    let mut host = started(alloc, heads, steps)?;
     let mut turns = Turns::new();
     for taken in steps {
         let seq = turns.next(taken.1, taken.0);

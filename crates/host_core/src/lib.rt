@@ -8,7 +8,7 @@ mod turns;
 mod versions;
 mod worked;
 
-pub use hosted::{boot, replay};
+pub use hosted::{boot, replay, start_port};
 pub use laws::calm_scripts_end_well;
 pub use settling::{settle, settle_all};
 pub use versions::first_scripts_are_second_too;

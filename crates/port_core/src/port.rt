@@ -80,6 +80,13 @@ impl Port {
         Ok(())
     }
 
+    /// Asks for memory for so many steps ahead of need. Where it is refused, `reserve` asks for what each step needs.
+    pub fn make_room(&mut self, steps: usize)
+        ensures { self.new ≡ self.old }
+    {
+        self.ledger.make_room(steps);
+    }
+
     /// Makes the entry of a step, the `seq`-th of `who`. It always succeeds, and takes no memory.
     pub fn step(&mut self, who: Who, seq: u64, step: &Step)
         requires spare { self.old.spare ≡ 1 }

@@ -28,6 +28,7 @@ use crate::links::{Links, booted, note_links};
 use crate::live_flags::LiveFlags;
 use crate::modes::{Modes, note_modes};
 use crate::notes;
+use crate::numbered::NUMBERS;
 use crate::port_state::{PortState, note_state};
 use crate::probes::{Probes, no_hotplugs, note_probes};
 use crate::recovery_told::{RecoveryTold, note_recovery};
@@ -163,6 +164,15 @@ impl Ledger {
         self.begins = 1;
         self.room = MOST_ACTS;
         Ok(())
+    }
+
+    /// Asks for memory for so many steps ahead of need: an entry each, two acts, and a command. Where it is refused, `reserve`
+    /// asks for what each step needs.
+    pub fn make_room(&mut self, steps: usize)
+        ensures { self.new ≡ self.old }
+    {
+        let _ = self.journal.make_room(steps, steps.saturating_mul(2));
+        let _ = self.commands.reserve(steps.min(NUMBERS));
     }
 
     /// Begins an entry, at the time by the clock.

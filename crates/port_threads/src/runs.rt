@@ -15,7 +15,8 @@ use crate::walks::walk;
 use ata_base::{ActorNo, OutOfMemory, PortNo};
 use ata_script::{PortHead, Script};
 use ata_trace::Step;
-use port_core::{Host, Port};
+use host_core::start_port;
+use port_core::Host;
 use std::alloc::Global;
 use std::sync::Wait;
 use std::thread::{Threads, join};
@@ -37,7 +38,7 @@ pub fn run_actors<R: Threads + Wait + Sync, G: Gate + Sync>(
     ensures { IfOk result (λ host. IsRunOf script.now.head script.now.steps host) }
 {
     few_actors(script.steps.items());
-    let (desks, passes) = open(alloc, script.head.items())?;
+    let (desks, passes) = open(alloc, script.head.items(), script.steps.items())?;
     let passes = run_from(rt, script, desks.as_slice(), passes, gate, 0)?;
     passes.close(alloc, desks)
 }
@@ -106,8 +107,12 @@ fn few_actors(lines: &[(ActorNo, PortNo, Step)])
     }
 }
 
-// A port for each head, booted, its turnstile and its first pass.
-fn open(alloc: Global, heads: &[PortHead]) -> Result<(Vec<Turnstile<Desk>>, Passes), OutOfMemory>
+// A port for each head, booted, its turnstile and its first pass. Memory is asked for ahead for these steps.
+fn open(
+    alloc: Global,
+    heads: &[PortHead],
+    steps: &[(ActorNo, PortNo, Step)],
+) -> Result<(Vec<Turnstile<Desk>>, Passes), OutOfMemory>
     requires few { length heads.now ≤ 8 }
     ensures passes { IfOk result (λ r. r.1 ≡ map first_pass r.0.items) }
     ensures desks { IfOk result (λ r. AllNew 0 heads.now r.0.items) }
@@ -115,7 +120,7 @@ fn open(alloc: Global, heads: &[PortHead]) -> Result<(Vec<Turnstile<Desk>>, Pass
     let mut desks = Vec::with_capacity(alloc, heads.len())?;
     let mut passes = Passes::new();
     for number in 0..heads.len() {
-        let port = Port::start(alloc, PortNo::at(number as u8), &heads[number])?;
+        let port = start_port(alloc, PortNo::at(number as u8), &heads[number], steps)?;
         let Ok((desk, pass)) = Turnstile::new(alloc, Desk::new(port)) else {
             return Err(OutOfMemory);
         };
