@@ -17,7 +17,7 @@ use Rattle.port_core.specs.Weave.{journals_of}
 use Rattle.port_past.specs.Live.{live}
 
 -- a count that stays below its last value isn't one more
-not_more : (before after : ℕ) → Stays before after → after ≡ one_more before → ⊥
+pub not_more : (before after : ℕ) → Stays before after → after ≡ one_more before → ⊥
 not_more before after stays more = let below : before < 2 ^ 64 - 1 = stays.below in let same : after ≡ before = stays.same in omega arith
 
 -- a script breaks no rule

@@ -46,7 +46,7 @@ cut_short AreOf left before after script journals p part = record {
   written = part.2;
 }
 
-not_true : IsTrue false → ⊥
+pub not_true : IsTrue false → ⊥
 not_true h = cc
 
 -- a replay that printed

@@ -1,4 +1,5 @@
 pub mod Completeness
+pub mod Generated
 pub mod Headline
 pub mod Journals
 pub mod Printing

@@ -1,10 +1,12 @@
 //! The program: `atahost replay` reads a script from standard input, settles its ports, and writes their
-//! journals to standard output; `atahost run` does so with each actor on a thread of its own. `--rounds R`
-//! behind it names the most rounds of settling. Its exit status tells how that ended; where it isn't 0, a line
-//! on standard error tells it too.
+//! journals to standard output; `atahost run` does so with each actor on a thread of its own; `atahost gen N` reads
+//! nothing, replays a script of the number N, and writes what its journals come to. `--rounds R` behind it names the
+//! most rounds of settling. Its exit status tells how that ended; where it isn't 0, a line on standard error tells it
+//! too.
 #![tactic(auto)]
 
 mod command;
+mod generated;
 mod laws;
 mod replay;
 mod running;

@@ -1,5 +1,5 @@
-ghost use Rattle.std.specs.Prelude.{◌≡◌, IfOk, IfErr, OnOk};
-ghost use Rattle.std.specs.Io.KnownBytes.{IsAtEnd};
+ghost use Rattle.std.specs.Prelude.{◌≡◌, ℕ, List, Option, IfOk, IfErr, OnOk};
+ghost use Rattle.std.specs.Io.KnownBytes.{Appends, IsAtEnd};
 ghost use Rattle.atahost.specs.Completeness.{EndsCalmly, HasCalmScript, HasScript, IsWhole, Stays};
 ghost use Rattle.atahost.specs.Headline.{Replays};
 ghost use Rattle.atahost.specs.Journals.{AreJournalsOf};
@@ -93,6 +93,15 @@ pub(crate) fn print<K: Sink>(host: &Host, sink: &mut K) -> Status
     if put_host(host, sink).is_err() {
         return Status::WriteFault;
     }
+    printed(host)
+}
+
+// How a printing ends that wrote its whole text.
+pub(crate) fn printed(host: &Host) -> Status
+    ensures printed { (before after : Option (List ℕ)) → (text : List ℕ) → Appends before after text
+        → Prints before after text (lives_of (journals_in host.now)) result }
+    ensures faults { (count : ℕ) → write_faults_after result count ≡ count }
+{
     match host.live() {
         0 => Status::Done,
         k => Status::Left { k },

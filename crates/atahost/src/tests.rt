@@ -1,9 +1,12 @@
 use crate::command::{Command, command_of};
+use crate::generated::gen_all;
 use crate::replay::replay_all;
 use crate::running::run_all;
 use crate::status::Status;
 use crate::top::atahost;
-use ata_io::{MemSink, MemSource, SureSink, SureSource};
+use ata_gen::script_of;
+use ata_io::{MemSink, MemSource, Source, SureSink, SureSource};
+use host_core::replay;
 use port_threads::NoGate;
 use std::alloc::Global;
 use std::process::Abort;
@@ -77,6 +80,19 @@ fn words_ask_for_commands(rt: HostRuntime) -> Result<(), Fail> {
         ("", None),
     ] {
         let want = rounds.map(|rounds| Command::Replay { rounds });
+        assert_eq!(rt; command_of(&words_of(alloc, text)?), want, "{text}");
+    }
+    for (text, want) in [
+        ("gen 1", Some((1, 200_000))),
+        ("gen 20000 --rounds 5", Some((20_000, 5))),
+        ("gen 20001", None),
+        ("gen 0", None),
+        ("gen 01", None),
+        ("gen", None),
+        ("gen 1 2", None),
+        ("gen --rounds 5", None),
+    ] {
+        let want = want.map(|(n, rounds)| Command::Gen { n, rounds });
         assert_eq!(rt; command_of(&words_of(alloc, text)?), want, "{text}");
     }
     let run = Command::Run { rounds: 7 };
@@ -326,6 +342,53 @@ fn a_script_of_one_line_is_done(rt: HostRuntime) -> Result<(), Fail> {
     let mut sink = MemSink::new(alloc, 64, Vec::new(alloc))?;
     assert_eq!(rt; replay_all(alloc, &mut source, &mut sink, 0), Status::Done);
     assert!(rt; sink.bytes().is_empty());
+    Ok(())
+}
+
+// What the script of 1 comes to: one read at a direct port, and two boots.
+const FIRST_SUMMARY: &str = "commands 1
+accepted 1
+refused 0
+issued 1
+ok 1
+failed 0
+nodev 0
+retried 0
+runs 0
+recorded 0
+entries 7
+live 0
+";
+
+#[test]
+fn a_generated_script_is_summed_up(rt: HostRuntime) -> Result<(), Fail> {
+    let alloc = rt.alloc();
+    let mut source = MemSource::new(vec![in alloc; b'#']?, 64, vec![in alloc; 1]?);
+    let mut sink = MemSink::new(alloc, 4096, Vec::new(alloc))?;
+    let words = words_of(alloc, "gen 1")?;
+    let status = atahost(&rt, alloc, &words, &mut source, &mut sink, &NoGate);
+    assert_eq!(rt; status, Status::Done);
+    assert_eq!(rt; sink.bytes(), FIRST_SUMMARY.as_bytes());
+    assert_eq!(rt; source.faults(), 0);
+    Ok(())
+}
+
+// What is left live is what the ports of the same script tell, and a second call writes the same.
+#[test]
+fn what_is_left_is_what_the_ports_tell(rt: HostRuntime) -> Result<(), Fail> {
+    let alloc = rt.alloc();
+    let Ok(script) = script_of(alloc, 1000) else {
+        panic!(rt; "the script wasn't made");
+    };
+    let live = replay(alloc, &script, 0)?.live();
+    let mut first = MemSink::new(alloc, 4096, Vec::new(alloc))?;
+    let mut second = MemSink::new(alloc, 4096, Vec::new(alloc))?;
+    let want = Status::Left { k: live };
+    assert_eq!(rt; gen_all(alloc, 1000, 0, &mut first), want);
+    assert_eq!(rt; gen_all(alloc, 1000, 0, &mut second), want);
+    let last = format!(in alloc; "live {live}\n")?;
+    assert!(rt; first.bytes().ends_with(last.as_bytes()));
+    assert_eq!(rt; first.bytes(), second.bytes());
     Ok(())
 }
 
