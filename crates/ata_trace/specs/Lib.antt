@@ -7,6 +7,7 @@ pub mod Names
 pub mod Parts
 pub mod Ranges
 pub mod Reading
+pub mod ScriptParts
 pub mod ScriptRanges
 pub mod Text
 pub mod Texts
