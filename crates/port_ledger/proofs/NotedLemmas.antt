@@ -1,5 +1,7 @@
 -- Failed issues by place, of which the later ones are noted.
-use Rattle.std.proofs.Common.{◌≡◌, ℕ, ◌+◌, ◌<◌, List, [], ◌∷◌, Option, None, Some, suc, zero, length, get_or, take, slice_set, refl, sym, ap, arith, add-one}
+use Rattle.std.proofs.Common.{◌≡◌, ℕ, false, true≢false, ◌+◌, ◌<◌, List, [], ◌∷◌, Option, None, Some, suc, zero, length, get_or, take, slice_set, refl, sym, ap, arith, add-one}
+use Rattle.std.specs.List.{list_any}
+use Rattle.std.specs.Prelude.{is_some}
 use Rattle.std.proofs.lemmas.List.{get_or_default}
 use Rattle.port_past.specs.Noted.{with_later}
 use Rattle.port_ledger.specs.Parts.{later}
@@ -23,3 +25,10 @@ pub later_at : {A : Type 0} (at : ℕ) (failing noted : List (Option A)) (d e it
     → it ≡ later (get_or failing at None) (get_or noted at None)
 later_at at failing noted d e it within inside is =
     rw (← get_or_default failing at d None within, ← get_or_default noted at e None inside) is
+
+-- where there is none to note, what was noted stays
+pub none_later : {A : Type 0} (failing was : List (Option A)) → list_any is_some failing ≡ false → with_later failing was ≡ was
+none_later [] was none = refl
+none_later (None ∷ failing) [] none = refl
+none_later (None ∷ failing) (x ∷ was) none = ap (λ rest. x ∷ rest) (none_later failing was none)
+none_later (Some y ∷ failing) was none = absurd (true≢false none)

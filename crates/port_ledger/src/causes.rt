@@ -1,4 +1,5 @@
-ghost use Rattle.std.specs.Prelude.{◌≡◌, Bool, false, List, Option, if◌then◌else◌};
+ghost use Rattle.std.specs.Prelude.{◌≡◌, Bool, false, List, Option, is_some, if◌then◌else◌};
+ghost use Rattle.std.specs.List.{list_any};
 ghost use Rattle.ata_trace.specs.Event.Event.{Told};
 ghost use Rattle.eh_autopsy.specs.declared.failed_issue.FailedIssue.{FailedIssue as Failed};
 ghost use Rattle.port_past.specs.Causes.{takes_causes, with_tferr, tferr_after, is_hotplug_bit, injects_hotplug, injects_link_error, injects_serror, cause_begun, iferr_after, connect_after, notify_after};
@@ -42,6 +43,13 @@ pub fn no_failures() -> Failures
     ensures { result ≡ nowhere }
 {
     [None; MOST_PLACES]
+}
+
+/// Whether an issue failed at some place.
+pub fn is_failing(failures: &Failures) -> bool
+    ensures { result ≡ list_any is_some failures.now }
+{
+    failures.iter().any(|failure| failure.is_some())
 }
 
 /// Whether a step takes the causes: an interrupt does that is served.
@@ -196,11 +204,13 @@ fn injects_serror(step: &Step) -> bool
     }
 }
 
-/// The failed issues that are noted, when a step begins: an interrupt that is served notes those that it takes.
+/// The failed issues that are noted, when a step begins: an interrupt that is served notes those that it takes. Most
+/// interrupts take none.
+#[tactic(auto, using(crate::proofs::NotedLemmas::none_later))]
 pub fn begin_noted(noted: &mut Failures, tferr: &Failures, step: &Step, served: bool)
     ensures { noted.new ≡ (if takes_causes step.now served then with_later tferr.now noted.old else noted.old) }
 {
-    if takes_causes(step, served) {
+    if takes_causes(step, served) && is_failing(tferr) {
         note_later(noted, tferr);
     }
 }

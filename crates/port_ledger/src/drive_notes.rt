@@ -68,12 +68,16 @@ pub fn note_drives(
         Act::IdentAsked { place, .. } => drives.identity_asked(linked_at(links, *place)),
         Act::Unplugged { place } => drives.drop_held(plugged_at(links, *place)),
         Act::Injected { place } => inject(drives, step, plugged_at(links, *place)),
-        _ => {
+        Act::Log { .. }
+        | Act::LogFailed { .. }
+        | Act::LogBadSum { .. }
+        | Act::LogNotQueued { .. } => {
             if let Some(log) = log_in(act) {
                 let idle = flights.lowest_free();
                 drives.log_told(linked_at(links, log.place), idle, &log.told);
             }
         }
+        _ => {}
     }
 }
 

@@ -24,4 +24,5 @@ mod recovery_told;
 mod ring_list;
 mod task_list;
 
+pub use causes::is_failing;
 pub use ledger::Ledger;

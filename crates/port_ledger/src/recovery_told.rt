@@ -201,11 +201,15 @@ fn note_logs(logs: &mut Logs, act: &Act)
 {
     match act {
         Act::Begun => *logs = no_logs(),
-        _ => {
+        Act::Log { .. }
+        | Act::LogFailed { .. }
+        | Act::LogBadSum { .. }
+        | Act::LogNotQueued { .. } => {
             if let Some(log) = log_in(act) {
                 logs[log.place.get() as usize] = Some(log.told);
             }
         }
+        _ => {}
     }
 }
 

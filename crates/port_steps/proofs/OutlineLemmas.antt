@@ -1,9 +1,10 @@
 -- What is asked of the outline of issues in flight, asked of the issues themselves.
-use Rattle.std.proofs.Common.{◌≡◌, ◌∙◌, ℕ, zero, suc, Bool, List, [], ◌∷◌, Option, None, Some, map, take, length, refl, arith}
+use Rattle.std.proofs.Common.{◌≡◌, ◌∙◌, ℕ, zero, suc, Bool, true, false, not, ◌&&◌, ◌==◌, IsTrue, IsBitSet, ◌↔◌, subst, ap, List, [], ◌∷◌, Option, None, Some, map, take, length, refl, sym, arith}
 use Rattle.std.proofs.lemmas.List.{length-map, take-map}
 use Rattle.std.specs.List.{list_any, position, position_or_len}
 use Rattle.std.specs.Prelude.{is_none, option_map}
-use Rattle.host_tags.specs.Slots.{free_below}
+use Rattle.host_defer.specs.Obstacles.{is_at, is_unqueued_at}
+use Rattle.host_tags.specs.Slots.{free_below, is_busy, is_queued}
 use Rattle.host_tags.specs.declared.in_flight.InFlight.{InFlight}
 use Rattle.port_rules.specs.Kick.{outline, place_and_queuing}
 
@@ -26,3 +27,36 @@ position_outlined flights = rw (first_outlined flights, length-map flights (opti
 pub free_outlined : (limit : ℕ) (flights : List (Option InFlight)) → free_below limit (outline flights) ≡ free_below limit flights
 free_outlined limit flights =
     rw (take-map (option_map place_and_queuing) limit flights) (position_outlined (take limit flights))
+
+-- where no tag is busy, no issue is at a place
+none_busy_at :
+    (x : ℕ) (flights : List (Option InFlight)) → ((tag : ℕ) → IsTrue (is_busy flights tag) → ⊥)
+    → list_any (is_at x) (outline flights) ≡ false
+none_busy_at x [] none = refl
+none_busy_at x (None ∷ flights) none = none_busy_at x flights (λ tag. none (suc tag))
+none_busy_at x (Some f ∷ flights) none = absurd (none zero refl)
+
+pub none_at :
+    (x busy : ℕ) (flights : List (Option InFlight)) → ((tag : ℕ) → IsBitSet busy tag ↔ IsTrue (is_busy flights tag)) → busy ≡ 0
+    → false ≡ list_any (is_at x) (outline flights)
+none_at x busy flights bits idle = sym (none_busy_at x flights (λ tag is. subst (λ m. IsBitSet m tag) idle ((bits tag).1 is) refl))
+
+and_not : (b queued : Bool) → queued ≡ true → (b && not queued) ≡ false
+and_not true queued is = rw is refl
+and_not false queued is = refl
+
+-- where each busy tag is a queued one's, no unqueued issue is at a place
+all_queued_at :
+    (x : ℕ) (flights : List (Option InFlight)) → ((tag : ℕ) → IsTrue (is_busy flights tag) → IsTrue (is_queued flights tag))
+    → list_any (is_unqueued_at x) (outline flights) ≡ false
+all_queued_at x [] all = refl
+all_queued_at x (None ∷ flights) all = all_queued_at x flights (λ tag. all (suc tag))
+all_queued_at x (Some f ∷ flights) all =
+    rw (and_not (f.place == x) f.queued (all zero refl)) (all_queued_at x flights (λ tag. all (suc tag)))
+
+pub none_unqueued_at :
+    (x busy queued : ℕ) (flights : List (Option InFlight)) → ((tag : ℕ) → IsBitSet busy tag ↔ IsTrue (is_busy flights tag))
+    → ((tag : ℕ) → IsBitSet queued tag ↔ IsTrue (is_queued flights tag)) → busy ≡ queued
+    → false ≡ list_any (is_unqueued_at x) (outline flights)
+none_unqueued_at x busy queued flights bits too same =
+    sym (all_queued_at x flights (λ tag is. (too tag).0 (subst (λ m. IsBitSet m tag) same ((bits tag).1 is))))

@@ -44,9 +44,9 @@ fn is_link_busy(slots: &Slots, place: Place, queued: bool) -> bool
     ensures { result ≡ is_link_busy (outline slots.now) place queued }
 {
     if queued {
-        any_unqueued_at(slots.flights(), place)
+        any_unqueued_at(slots, place)
     } else {
-        any_at(slots.flights(), place)
+        any_at(slots, place)
     }
 }
 
@@ -75,13 +75,33 @@ fn free_tag(ledger: &Ledger, place: Place, queued: bool) -> Option<Tag>
     ledger.free_below(limit)
 }
 
-fn any_at(flights: &[Option<InFlight>], x: Place) -> bool
+/// Whether an issue in flight is at place `x`; none is where no tag is busy.
+fn any_at(slots: &Slots, x: Place) -> bool
+    ensures { result ≡ list_any (is_at x) (outline slots.now) }
+{
+    if slots.busy() == 0 {
+        return false;
+    }
+    any_flight_at(slots.flights(), x)
+}
+
+fn any_flight_at(flights: &[Option<InFlight>], x: Place) -> bool
     ensures { result ≡ list_any (is_at x) (outline flights.now) }
 {
     flights.iter().any(|slot| is_at(slot, x))
 }
 
-fn any_unqueued_at(flights: &[Option<InFlight>], x: Place) -> bool
+/// Whether an unqueued issue is at place `x`; none is where each busy tag is a queued one's.
+fn any_unqueued_at(slots: &Slots, x: Place) -> bool
+    ensures { result ≡ list_any (is_unqueued_at x) (outline slots.now) }
+{
+    if slots.busy() == slots.queued() {
+        return false;
+    }
+    any_unqueued_flight_at(slots.flights(), x)
+}
+
+fn any_unqueued_flight_at(flights: &[Option<InFlight>], x: Place) -> bool
     ensures { result ≡ list_any (is_unqueued_at x) (outline flights.now) }
 {
     flights.iter().any(|slot| is_unqueued_at(slot, x))

@@ -1,5 +1,4 @@
-ghost use Rattle.std.specs.Prelude.{◌≡◌, is_some};
-ghost use Rattle.std.specs.List.{list_any};
+ghost use Rattle.std.specs.Prelude.{◌≡◌};
 ghost use Rattle.port_ledger.specs.LedgerView.{past};
 ghost use Rattle.port_past.specs.Causes.{has_notify, tferr};
 ghost use Rattle.port_rules.specs.Interrupt.{must_freeze};
@@ -7,7 +6,7 @@ ghost use Rattle.port_steps.specs.Taken.{asks};
 
 use ata_base::MOST_PLACES;
 use eh_autopsy::FailedIssue;
-use port_ledger::Ledger;
+use port_ledger::{Ledger, is_failing};
 
 /// What a served interrupt takes: by place the failed issue of TFERR, whether a cause stands that freezes the port, and
 /// whether NOTIFY stands.
@@ -35,12 +34,5 @@ pub fn standing(ledger: &Ledger) -> Taken
 pub fn asks(taken: &Taken) -> bool
     ensures { result ≡ asks taken.now }
 {
-    has_some(&taken.failing) || taken.freeze || taken.notify
-}
-
-/// Whether a place has a failed issue.
-fn has_some(failing: &[Option<FailedIssue>; MOST_PLACES]) -> bool
-    ensures { result ≡ list_any is_some failing.now }
-{
-    failing.iter().any(|failed| failed.is_some())
+    is_failing(&taken.failing) || taken.freeze || taken.notify
 }

@@ -23,11 +23,25 @@ pub fn answer_all(ledger: &mut Ledger)
         ≡ condemnations test kinds (slots_in ledger.old) (completions_in ledger.old) }
 {
     for tag in 0..TAG_COUNT as u8 {
-        answer_at(ledger, Tag::at(tag));
+        answer_busy(ledger, Tag::at(tag));
     }
 }
 
-/// Answers the issue under a tag, where it is completed and not owned.
+/// Answers the issue under a tag, where there is one that is completed and not owned.
+fn answer_busy(ledger: &mut Ledger, tag: Tag)
+    requires room { 1 ≤ ledger.old.room }
+    ensures tells { TellsAt answer_of completions_in tag ledger.old ledger.new }
+    ensures left { (test : InFlight → Bool) (kinds : ErrMask) → condemnations test kinds (slots_in ledger.new) (completions_in ledger.new)
+        ≡ condemnations test kinds (slots_in ledger.old) (completions_in ledger.old) }
+{
+    if ledger.flight(tag).is_some() {
+        answer_at(ledger, tag);
+    }
+}
+
+/// Answers the issue under a tag, where it is completed and not owned. It stands apart, so that its act costs nothing at a
+/// free tag.
+#[inline(never)]
 #[tactic(auto, using(crate::proofs::WalkLemmas::later_without, crate::proofs::WalkLemmas::later_beside))]
 fn answer_at(ledger: &mut Ledger, tag: Tag)
     requires room { 1 ≤ ledger.old.room }

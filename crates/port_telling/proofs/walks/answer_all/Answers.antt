@@ -11,8 +11,8 @@ pub loop-tag-preserved : goal.loop-tag-preserved
 loop-tag-preserved c = record {
   told =
       let size = length_ends c.args.ledger.now.head (past_of c.args.ledger.now.entries) in
-      walk_goes (omega arith) size c.loop-tag.invariant.told (rw c.at.ensures at c.answer_at.ensures.tells);
-  left = λ test kinds. c.answer_at.ensures.left test kinds ∙ c.loop-tag.invariant.left test kinds;
+      walk_goes (omega arith) size c.loop-tag.invariant.told (rw c.at.ensures at c.answer_busy.ensures.tells);
+  left = λ test kinds. c.answer_busy.ensures.left test kinds ∙ c.loop-tag.invariant.left test kinds;
 }
 
 pub returns-clause-adds : goal.returns-clause-adds
