@@ -2,6 +2,7 @@ pub mod ActsBack
 pub mod DigitCounts
 pub mod Digits
 pub mod HeadLemmas
+pub mod KeptLemmas
 pub mod LinesBack
 pub mod NameLemmas
 pub mod NumberLemmas

@@ -2,7 +2,9 @@ pub mod Entries
 pub mod Event
 pub mod Heads
 pub mod JournalView
+pub mod Kept
 pub mod Lent
+pub mod LentActs
 pub mod Names
 pub mod Parts
 pub mod Ranges

@@ -5,8 +5,10 @@
 
 mod act;
 mod act_text;
+mod acts;
 mod entry;
 mod journal;
+mod kept;
 mod laws;
 mod line;
 mod names;
@@ -26,6 +28,7 @@ mod told_head;
 mod who;
 
 pub use act::Act;
+pub use acts::{Acts, LentAct};
 pub use entry::Entry;
 pub use journal::Journal;
 pub use laws::{one_act, one_head, one_text};

@@ -7,7 +7,7 @@ ghost use Rattle.port_core.specs.Hosts.{journals_in};
 
 use crate::summary::Summary;
 use ata_base::{ActorNo, PortNo};
-use ata_trace::{Act, Entry, Journal, Step};
+use ata_trace::{Act, Acts, Entry, Journal, Step};
 use port_core::{Host, Port};
 
 /// What the journals of a host come to, and how many of these steps, those of its script, submit a command. One pass, and
@@ -82,16 +82,19 @@ fn count_entry(summary: &mut Summary, entry: &Entry<'_>)
     ensures { summary.new ≡ with_entry summary.old (entry_lent entry.now) }
 {
     summary.entries = one_more(summary.entries);
-    count_acts(summary, entry.acts);
+    count_acts(summary, &entry.acts);
 }
 
 /// Counts acts.
 #[tactic(auto, using(crate::proofs::Counts::acts_more))]
-fn count_acts(summary: &mut Summary, acts: &[Act])
+fn count_acts(summary: &mut Summary, acts: &Acts<'_>)
     ensures { summary.new ≡ with_acts summary.old acts.now }
 {
-    for act in acts {
-        count_act(summary, act);
+    for i in 0..acts.len() {
+        match acts.get(i) {
+            Some(act) => count_act(summary, act.get()),
+            None => unreachable!(),
+        }
     }
 }
 

@@ -213,19 +213,31 @@ fn a_script_has_its_ranges(rt: HostRuntime) {
     assert!(rt; ScriptFault::new(hang(101)).is_none());
 }
 
+// Whether that act stands there.
+fn is_act(acts: &Acts<'_>, i: usize, act: &Act) -> bool {
+    match acts.get(i) {
+        Some(found) => found.get() == act,
+        None => false,
+    }
+}
+
 #[test]
 fn a_journal_keeps_its_entries(rt: HostRuntime) -> Result<(), Fail> {
     let mut journal = Journal::new(rt.alloc());
     journal.reserve()?;
     journal.begin(Ms { n: 0 }, Who::Boot, 0, Step::Boot);
     journal.add(Act::Raised);
-    journal.add(Act::Nothing);
+    journal.add(Act::Frozen);
     journal.reserve()?;
     journal.begin(Ms { n: 9 }, Who::Settle, 1, Step::Irq);
     journal.add(Act::Nothing);
     assert_eq!(rt; journal.len(), 2);
     match journal.entry(0) {
-        Some(first) => assert_eq!(rt; first.acts, [Act::Raised, Act::Nothing].as_slice()),
+        Some(first) => {
+            assert_eq!(rt; first.acts.len(), 2);
+            assert!(rt; is_act(&first.acts, 0, &Act::Raised));
+            assert!(rt; is_act(&first.acts, 1, &Act::Frozen));
+        }
         None => assert!(rt; false),
     }
     match journal.entry(1) {
@@ -234,7 +246,8 @@ fn a_journal_keeps_its_entries(rt: HostRuntime) -> Result<(), Fail> {
             assert_eq!(rt; second.who, Who::Settle);
             assert_eq!(rt; second.seq, 1);
             assert_eq!(rt; second.step, Step::Irq);
-            assert_eq!(rt; second.acts, [Act::Nothing].as_slice());
+            assert_eq!(rt; second.acts.len(), 1);
+            assert!(rt; is_act(&second.acts, 0, &Act::Nothing));
         }
         None => assert!(rt; false),
     }

@@ -1,11 +1,12 @@
 -- What a port knows of itself as it settles.
-use Rattle.std.proofs.Common.{◌≡◌, ◌∙◌, ℕ, suc, ◌+◌, ◌-◌, ◌<◌, ◌≤◌, ◌^◌, min, nat_lt, Bool, true, false, ◌==◌, List, [], ◌∷◌, ◌++◌, fold, filter, Option, None, Some, option_map, slice_get, length, refl, sym, ap, subst, arith, if◌then◌else◌}
+use Rattle.std.proofs.Common.{◌≡◌, ◌∙◌, ℕ, suc, zero, ◌+◌, ◌-◌, ◌<◌, ◌≤◌, ◌^◌, min, nat_lt, Bool, true, false, ◌&&◌, ◌==◌, List, [], ◌∷◌, ◌++◌, take, fold, filter, Option, None, Some, option_map, slice_get, length, refl, sym, ap, subst, add-one, arith, if◌then◌else◌}
 use Rattle.std.proofs.lemmas.Bool.Decides.{nat_tests}
 use Rattle.std.specs.Prelude.{IfSome}
 use Rattle.std.specs.List.{list_all, reduce}
 use Rattle.ata_base.specs.declared.ms.Ms.{Ms}
 use Rattle.ata_script.specs.declared.port_head.PortHead.{PortHead}
 use Rattle.ata_trace.specs.Entries.{EntryView, past_of}
+use Rattle.ata_trace.specs.declared.act.Act.{Act}
 use Rattle.port_core.specs.Idle.{is_idle_last, last_acts}
 use Rattle.port_facts.proofs.Legal.{journal_allowed}
 use Rattle.port_past.specs.Clock.{clock}
@@ -58,6 +59,32 @@ pub last_pushed : (entries : List EntryView) (entry : EntryView) → last_acts (
 last_pushed [] entry = refl
 last_pushed (first ∷ []) entry = refl
 last_pushed (first ∷ next ∷ rest) entry = last_pushed (next ∷ rest) entry
+
+-- ---- the acts of an entry, one after the other
+
+all_one_more : {X : Type 0} (test : X → Bool) (xs : List X) (i : ℕ) (x : X) → slice_get xs i ≡ Some x → list_all test (take (i + 1) xs) ≡ (list_all test (take i xs) && test x)
+all_one_more test [] i x found = absurd (cc)
+all_one_more test (y ∷ ys) zero x found =
+    let same : y ≡ x = cc found in
+    rw (ap test (sym same)) (elim (test y) as (λ b. (b && true) ≡ b) [ true ↦ refl | false ↦ refl ])
+all_one_more test (y ∷ ys) (suc i) x found =
+    rw (add-one (suc i)) (rw (rw add-one at (all_one_more test ys i x found)) (elim (test y) as (λ b. (b && (list_all test (take i ys) && test x)) ≡ ((b && list_all test (take i ys)) && test x)) [ true ↦ refl | false ↦ refl ]))
+
+-- the first acts are idle, and so is the next
+pub idle_more : (acts : List Act) (i : ℕ) (act : Act) → slice_get acts i ≡ Some act → list_all is_idle_act (take i acts) ≡ true → is_idle_act act ≡ true → list_all is_idle_act (take (i + 1) acts) ≡ true
+idle_more acts i act found before here = rw (all_one_more is_idle_act acts i act found, before, here) refl
+
+-- one that isn't makes them all not idle
+not_all : {X : Type 0} (test : X → Bool) (xs : List X) (i : ℕ) (x : X) → slice_get xs i ≡ Some x → test x ≡ false → list_all test xs ≡ false
+not_all test [] i x found here = absurd (cc)
+not_all test (y ∷ ys) zero x found here =
+    let same : y ≡ x = cc found in
+    rw (same, here) refl
+not_all test (y ∷ ys) (suc i) x found here =
+    rw (not_all test ys i x found here) (elim (test y) as (λ b. (b && false) ≡ false) [ true ↦ refl | false ↦ refl ])
+
+pub busy_one : (acts : List Act) (i : ℕ) (act : Act) → slice_get acts i ≡ Some act → is_idle_act act ≡ false → list_all is_idle_act acts ≡ false
+busy_one acts i act found here = not_all is_idle_act acts i act found here
 
 -- ---- the time for which a port waits comes later
 

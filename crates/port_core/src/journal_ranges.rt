@@ -8,7 +8,7 @@ use crate::number_ranges::{id_in_range, long_in_range};
 use crate::port::Port;
 use crate::{act_ranges, ranges};
 use ata_base::Cmd;
-use ata_trace::{Act, Entry, Journal, Step, Who};
+use ata_trace::{Acts, Entry, Journal, Step, Who};
 
 /// All that the texts of these ports tell is in the ranges of its types. It changes nothing.
 #[tactic(auto, using(crate::proofs::ToldLemmas::ports_more))]
@@ -52,7 +52,7 @@ fn entry_in_range(entry: &Entry<'_>)
     who_in_range(entry.who);
     long_in_range(entry.seq);
     step_in_range(&entry.step);
-    acts_in_range(entry.acts);
+    acts_in_range(&entry.acts);
 }
 
 // Who took a step.
@@ -78,12 +78,14 @@ fn step_in_range(step: &Step)
 }
 
 // Acts.
-#[tactic(auto, using(crate::proofs::ToldLemmas::acts_more))]
-fn acts_in_range(acts: &[Act])
+fn acts_in_range(acts: &Acts<'_>)
     ensures { AreActs acts.now }
 {
-    for act in acts {
-        act_ranges::in_range(act);
+    for i in 0..acts.len() {
+        match acts.get(i) {
+            Some(act) => act_ranges::in_range(act.get()),
+            None => unreachable!(),
+        }
     }
 }
 

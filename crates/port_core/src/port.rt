@@ -29,7 +29,7 @@ use crate::quiet::is_quiet;
 use crate::ranges::in_range;
 use ata_base::{Cmd, CmdId, Ms, OutOfMemory, PortNo};
 use ata_script::PortHead;
-use ata_trace::{Act, Journal, Step, Who};
+use ata_trace::{Act, Acts, Journal, Step, Who};
 use port_ledger::Ledger;
 use std::alloc::Global;
 use std::marker::Model;
@@ -183,7 +183,7 @@ impl Port {
     {
         let journal = self.ledger.journal();
         match journal.entry(journal.len().saturating_sub(1)) {
-            Some(entry) => are_idle(entry.acts),
+            Some(entry) => are_idle(&entry.acts),
             None => true,
         }
     }
@@ -231,10 +231,21 @@ impl Port {
 }
 
 /// Whether each of these acts is one of an idle round: `nothing`, `deferred` or `waiting`.
-fn are_idle(acts: &[Act]) -> bool
+#[tactic(auto, using(crate::proofs::Settles::busy_one))]
+fn are_idle(acts: &Acts<'_>) -> bool
     ensures { result ≡ list_all is_idle_act acts.now }
 {
-    acts.iter().all(|act| is_idle_act(act))
+    for i in 0..acts.len() {
+        match acts.get(i) {
+            Some(act) => {
+                if !is_idle_act(act.get()) {
+                    return false;
+                }
+            }
+            None => unreachable!(),
+        }
+    }
+    true
 }
 
 /// Whether an act is `nothing`, `deferred` or `waiting`.

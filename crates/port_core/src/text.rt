@@ -15,7 +15,7 @@ use crate::journal_ranges::{port_in_range, ports_in_range};
 use crate::port::Port;
 use ata_base::{Cmd, CmdId};
 use ata_io::{Sink, WriteFault, put_all};
-use ata_trace::{Act, Entry, Journal, Line, set_act_line, set_head_line};
+use ata_trace::{Act, Acts, Entry, Journal, Line, set_act_line, set_head_line};
 
 /// Appends the text of a port to the sink, and no write failed; or `WriteFault` at the first write that
 /// failed, and a prefix of the text was appended. All that the text tells is in the ranges of its types, so that it is the
@@ -135,7 +135,7 @@ fn put_entry<K: Sink>(entry: &Entry<'_>, line: &mut Line, sink: &mut K) -> Resul
         (entry_text (entry_lent entry.now)) }
 {
     match put_head(entry, line, sink) {
-        Ok(()) => put_acts(entry.acts, line, sink),
+        Ok(()) => put_acts(&entry.acts, line, sink),
         Err(_) => Err(WriteFault),
     }
 }
@@ -158,13 +158,16 @@ fn put_act<K: Sink>(act: &Act, line: &mut Line, sink: &mut K) -> Result<(), Writ
 }
 
 /// A line for each act.
-fn put_acts<K: Sink>(acts: &[Act], line: &mut Line, sink: &mut K) -> Result<(), WriteFault>
+fn put_acts<K: Sink>(acts: &Acts<'_>, line: &mut Line, sink: &mut K) -> Result<(), WriteFault>
     ensures { Writes K.written K.fault_count sink.old sink.new result (flat_map act_line acts.now) }
 {
-    for act in acts {
-        match put_act(act, line, sink) {
-            Ok(()) => {}
-            Err(_) => return Err(WriteFault),
+    for i in 0..acts.len() {
+        match acts.get(i) {
+            Some(act) => match put_act(act.get(), line, sink) {
+                Ok(()) => {}
+                Err(_) => return Err(WriteFault),
+            },
+            None => unreachable!(),
         }
     }
     Ok(())

@@ -1,5 +1,6 @@
 ghost use Rattle.std.specs.Prelude.{◌≡◌, ◌∷◌, ◌<◌, [], IfOk, OnOk, OnErr};
 ghost use Rattle.ata_trace.specs.Event.Event.{Entered, Told};
+ghost use Rattle.ata_trace.specs.declared.act.Act.TheVariants as acts;
 ghost use Rattle.ata_trace.specs.declared.step.Step.TheVariants as steps;
 ghost use Rattle.ata_trace.specs.declared.who.Who.TheVariants as by;
 ghost use Rattle.port_past.specs.Clock.{clock};
@@ -171,7 +172,7 @@ impl Ledger {
     pub fn make_room(&mut self, steps: usize)
         ensures { self.new ≡ self.old }
     {
-        let _ = self.journal.make_room(steps, steps.saturating_mul(2));
+        self.journal.expect(steps, steps.saturating_mul(2));
         let _ = self.commands.reserve(steps.min(NUMBERS));
     }
 
@@ -193,6 +194,28 @@ impl Ledger {
 
     /// Tells an act of the last entry.
     pub fn note(&mut self, act: Act)
+        requires room { 0 < self.old.room }
+        requires sound { IsSound self.old.head (past self.old) act }
+        ensures { Goes self.old self.new 0 1 (Told act ∷ past self.old) }
+    {
+        match act {
+            Act::Nothing => self.note_nothing(),
+            _ => self.note_change(act),
+        }
+    }
+
+    // Tells that there was nothing to do, which changes no part but the journal.
+    fn note_nothing(&mut self)
+        requires { 0 < self.old.room }
+        ensures { Goes self.old self.new 0 1 (Told acts.Nothing ∷ past self.old) }
+    {
+        self.journal.add(Act::Nothing);
+        self.events += 1;
+        self.room -= 1;
+    }
+
+    // The same of any act, told to each part.
+    fn note_change(&mut self, act: Act)
         requires room { 0 < self.old.room }
         requires sound { IsSound self.old.head (past self.old) act }
         ensures { Goes self.old self.new 0 1 (Told act ∷ past self.old) }

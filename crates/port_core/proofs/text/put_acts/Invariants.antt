@@ -4,5 +4,5 @@ use Rattle.ata_trace.specs.Text.{act_line}
 use Rattle.port_core.proofs.Pieces.{Wrote}
 use Rattle.port_core.proofs.text.put_acts.Given as goal
 
-abbrev pub invariant-loop-act : goal.invariant-loop-act
-invariant-loop-act g l = Wrote g.K.Sink.written g.K.Sink.fault_count l.fn.sink l.sink (flat_map act_line (take l.act-index l.acts))
+abbrev pub invariant-loop-i : goal.invariant-loop-i
+invariant-loop-i g l = Wrote g.K.Sink.written g.K.Sink.fault_count l.fn.sink l.sink (flat_map act_line (take l.i l.acts))

@@ -3,7 +3,7 @@ use Rattle.ata_trace.specs.Entries.{past_of}
 use Rattle.port_past.specs.Line.{is_irq_served}
 use Rattle.port_past.specs.PortState.{is_frozen}
 use Rattle.port_past.specs.Causes.{tferr}
-use Rattle.port_ledger.proofs.ledger.Ledger.note.Goals as goal
+use Rattle.port_ledger.proofs.ledger.Ledger.note_change.Goals as goal
 
 pub invariant_of-self : goal.invariant_of-self
 invariant_of-self c =
