@@ -64,36 +64,36 @@ pub record Tracks (l : Inside) : Type 0 where
   pub iferr : l.causes.iferr ≡ has_iferr l.head (the_past l)
   pub connect : l.causes.connect ≡ has_connect l.head (the_past l)
   pub notify : l.causes.notify ≡ has_notify l.head (the_past l)
-  pub places : l.recovery.places ≡ place_told (the_past l)
-  pub host : l.recovery.host ≡ host_told (the_past l)
-  pub ident_lates : l.recovery.ident_lates ≡ ident_lates (the_past l)
-  pub was_hot : l.recovery.was_hot ≡ was_hot (the_past l)
-  pub actions : l.recovery.actions ≡ actions (the_past l)
-  pub logs : l.recovery.logs ≡ logs (the_past l)
-  pub probes : l.probes ≡ probes (the_past l)
+  pub places : l.eh.recovery.places ≡ place_told (the_past l)
+  pub host : l.eh.recovery.host ≡ host_told (the_past l)
+  pub ident_lates : l.eh.recovery.ident_lates ≡ ident_lates (the_past l)
+  pub was_hot : l.eh.recovery.was_hot ≡ was_hot (the_past l)
+  pub actions : l.eh.recovery.actions ≡ actions (the_past l)
+  pub logs : l.eh.recovery.logs ≡ logs (the_past l)
+  pub probes : l.eh.probes ≡ probes (the_past l)
   pub udmas : l.modes.udmas ≡ udmas (the_past l)
   pub ncq_on : l.modes.ncq_on ≡ ncq_on (the_past l)
   pub dubious : l.modes.dubious ≡ dubious (the_past l)
   pub lowerings : l.modes.lowerings ≡ lowerings (the_past l)
   pub ncq_ended : l.modes.ncq_ended ≡ ncq_ended (the_past l)
-  pub identities : l.identities ≡ identities (the_past l)
-  pub identified_by : l.identified_by ≡ identified_by l.head (the_past l)
-  pub answered : l.ident_answered ≡ is_ident_answered l.head (the_past l)
+  pub identities : l.eh.identities ≡ identities (the_past l)
+  pub identified_by : l.eh.identified_by ≡ identified_by l.head (the_past l)
+  pub answered : l.eh.ident_answered ≡ is_ident_answered l.head (the_past l)
   pub live : live_of l.live (ids_of l.commands.list) ≡ live (the_past l)
   pub queues : l.queues.lists ≡ queues (the_past l)
   pub retried : l.queues.retried ≡ retried (the_past l)
-  pub rings : l.rings ≡ rings (the_past l)
-  pub noted : l.noted ≡ tferr_noted (the_past l)
-  pub judged : l.judgements ≡ judged (the_past l)
+  pub rings : l.eh.rings ≡ rings (the_past l)
+  pub noted : l.eh.noted ≡ tferr_noted (the_past l)
+  pub judged : l.eh.judgements ≡ judged (the_past l)
   pub exclusive : l.exclusive ≡ exclusive (the_past l)
-  pub tasks : l.tasks ≡ tasks l.head (the_past l)
+  pub tasks : l.eh.tasks ≡ tasks l.head (the_past l)
   pub numbers : AreUpTo l.issues l.flights
   pub some : 0 < length l.journal.entries
   pub early : l.clock ≤ 2 ^ 62
   pub issues_few : l.issues ≤ l.events
   pub settlings_few : l.settlings ≤ l.events
   pub detachments_few : AreAtMost l.events l.attachments.detachments
-  pub ident_lates_few : AreAtMost l.events l.recovery.ident_lates
+  pub ident_lates_few : AreAtMost l.events l.eh.recovery.ident_lates
   pub lowerings_few : AreAtMost l.events l.modes.lowerings
   pub events_room : l.events + l.begins + l.room < 2 ^ 64
   pub entry_room : l.begins ≤ l.journal.entry_room

@@ -12,30 +12,22 @@ mod places;
 mod port;
 
 use crate::attachments::{Attachments, note_attachments};
-use crate::causes::{
-    Causes, Failures, begin_causes, begin_noted, no_failures, note_causes, note_noted,
-};
+use crate::causes::{Causes, begin_causes, begin_noted, note_causes};
 use crate::command_queues::CommandQueues;
 use crate::command_table::CommandTable;
 use crate::completion_list::CompletionList;
 use crate::drive_list::DriveList;
 use crate::drive_notes::{note_completions, note_drives};
+use crate::eh_parts::EhParts;
 use crate::flights::Flights;
-use crate::identities::{
-    DriveNumbers, Identities, no_drives, note_ident_answered, note_identified_by,
-};
-use crate::issue_notes::{Judgements, exclusive_after, no_judgements, note_judgements};
+use crate::issue_notes::exclusive_after;
 use crate::links::{Links, booted, note_links};
 use crate::live_flags::LiveFlags;
 use crate::modes::{Modes, note_modes};
 use crate::notes;
 use crate::numbered::NUMBERS;
 use crate::port_state::{PortState, note_state};
-use crate::probes::{Probes, no_hotplugs, note_probes};
-use crate::recovery_told::{RecoveryTold, note_recovery};
-use crate::ring_list::RingList;
-use crate::task_list::TaskList;
-use ata_base::{MOST_ACTS, MOST_PLACES, Ms, OutOfMemory, Place};
+use ata_base::{MOST_ACTS, Ms, OutOfMemory, Place};
 use ata_script::PortHead;
 use ata_trace::{Act, Journal, Step, Who};
 use std::alloc::Global;
@@ -68,19 +60,11 @@ pub struct Ledger {
     drives: DriveList,
     completions: CompletionList,
     causes: Causes,
-    recovery: RecoveryTold,
-    probes: Probes,
+    eh: EhParts,
     modes: Modes,
-    identities: Identities,
-    identified_by: DriveNumbers,
-    ident_answered: [bool; MOST_PLACES],
     live: LiveFlags,
     queues: CommandQueues,
-    rings: RingList,
-    noted: Failures,
-    judgements: Judgements,
     exclusive: Option<Place>,
-    tasks: TaskList,
 }
 
 impl Model for Ledger {
@@ -132,19 +116,11 @@ impl Ledger {
             drives,
             completions: CompletionList::new(alloc)?,
             causes: Causes::new(),
-            recovery: RecoveryTold::new(),
-            probes: no_hotplugs(),
+            eh: EhParts::new(alloc)?,
             modes: Modes::new(),
-            identities: Identities::new(alloc)?,
-            identified_by: no_drives(),
-            ident_answered: [false; MOST_PLACES],
             live: LiveFlags::new(alloc)?,
             queues: CommandQueues::new(alloc)?,
-            rings: RingList::new(alloc)?,
-            noted: no_failures(),
-            judgements: no_judgements(),
             exclusive: None,
-            tasks: TaskList::new(alloc)?,
         };
         ledger.reserve()?;
         Ok(ledger)
@@ -183,7 +159,7 @@ impl Ledger {
     {
         self.journal.begin(Ms { n: self.clock }, who, seq, *step);
         let served = !self.state.frozen && self.line;
-        begin_noted(&mut self.noted, &self.causes.tferr, step, served);
+        begin_noted(&mut self.eh.noted, &self.causes.tferr, step, served);
         begin_causes(&mut self.causes, step, served);
         self.line = notes::line_at(step, self.state.frozen, self.line);
         self.settlings = notes::settlings_at(&who, self.settlings);
@@ -221,12 +197,17 @@ impl Ledger {
         ensures { Goes self.old self.new 0 1 (Told act ∷ past self.old) }
     {
         // A part that reads another as it was before the act comes before that one.
-        note_judgements(
-            &mut self.judgements,
+        self.eh.note(
             &act,
             &self.flights,
-            &self.noted,
-            &self.recovery.logs,
+            &self.links,
+            &self.drives,
+            &self.attachments.attached,
+            &self.modes.dubious,
+            self.head.pmp,
+            self.state.frozen,
+            self.clock,
+            self.events,
         );
         self.exclusive = exclusive_after(&act, &self.flights, self.exclusive);
         notes::note_queues(
@@ -236,18 +217,6 @@ impl Ledger {
             &self.attachments.detachments,
             &self.commands,
         );
-        notes::note_tasks(
-            &mut self.tasks,
-            &act,
-            self.head.pmp,
-            self.state.frozen,
-            &self.attachments.attached,
-            &self.recovery,
-        );
-        self.rings.note(&act, self.clock, &self.modes.dubious);
-        note_noted(&mut self.noted, &act);
-        note_ident_answered(&mut self.ident_answered, &act, &self.links, &self.drives);
-        note_identified_by(&mut self.identified_by, &act, &self.links);
         note_completions(
             &mut self.completions,
             &act,
@@ -277,10 +246,7 @@ impl Ledger {
         note_links(&mut self.links, &act, &self.step);
         note_attachments(&mut self.attachments, &act, self.events);
         note_causes(&mut self.causes, &act, &self.step, self.head.pmp);
-        note_recovery(&mut self.recovery, &act, self.events);
-        note_probes(&mut self.probes, &act, self.clock);
         note_state(&mut self.state, &act, self.clock);
-        self.identities.note(&act);
         self.issues = notes::issue_count_after(&act, self.issues);
         self.clock = notes::clock_after(&act, self.clock);
         self.line = notes::line_after(&act, self.line);

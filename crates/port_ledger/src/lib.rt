@@ -9,6 +9,7 @@ mod command_table;
 mod completion_list;
 mod drive_list;
 mod drive_notes;
+mod eh_parts;
 mod flights;
 mod identities;
 mod issue_notes;

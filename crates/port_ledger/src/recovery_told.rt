@@ -65,22 +65,12 @@ pub fn note_recovery(recovery: &mut RecoveryTold, act: &Act, most: u64)
     ensures actions { recovery.new.actions ≡ actions_after (Told act.now) recovery.old.actions }
     ensures logs { recovery.new.logs ≡ logs_after (Told act.now) recovery.old.logs }
 {
-    match act {
-        // Most acts tell nothing of recovery.
-        Act::Accepted { .. }
-        | Act::Issued { .. }
-        | Act::Done { .. }
-        | Act::Raised
-        | Act::AnsweredOk { .. } => {}
-        _ => {
-            note_places(&mut recovery.places, act);
-            recovery.host = host_told_after(act, recovery.host);
-            note_ident_lates(&mut recovery.ident_lates, act, most);
-            note_hot(&mut recovery.was_hot, act);
-            note_actions(&mut recovery.actions, act);
-            note_logs(&mut recovery.logs, act);
-        }
-    }
+    note_places(&mut recovery.places, act);
+    recovery.host = host_told_after(act, recovery.host);
+    note_ident_lates(&mut recovery.ident_lates, act, most);
+    note_hot(&mut recovery.was_hot, act);
+    note_actions(&mut recovery.actions, act);
+    note_logs(&mut recovery.logs, act);
 }
 
 fn note_places(places: &mut [PlaceTold; MOST_PLACES], act: &Act)

@@ -79,7 +79,7 @@ impl Ledger {
     pub fn judgement(&self, tag: Tag) -> Option<Judgement>
         ensures { result ≡ slice_index_or (judged (past self.now)) tag None }
     {
-        self.judgements[tag.get() as usize]
+        self.eh.judgements[tag.get() as usize]
     }
 
     /// The issues in flight, lent.

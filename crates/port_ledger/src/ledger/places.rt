@@ -54,21 +54,21 @@ impl Ledger {
     pub fn tferr_noted(&self, place: Place) -> Option<FailedIssue>
         ensures { result ≡ slice_index_or (tferr_noted (past self.now)) place None }
     {
-        self.noted[place.get() as usize]
+        self.eh.noted[place.get() as usize]
     }
 
     /// The error ring, lent.
     pub fn ring(&self, place: Place) -> &Ring
         ensures { result.now ≡ slice_index_or (rings (past self.now)) place no_entries }
     {
-        self.rings.get(place)
+        self.eh.rings.get(place)
     }
 
     /// What recovery told last.
     pub fn place_told(&self, place: Place) -> PlaceTold
         ensures { result ≡ slice_index_or (place_told (past self.now)) place NotBegun }
     {
-        self.recovery.places[place.get() as usize]
+        self.eh.recovery.places[place.get() as usize]
     }
 
     /// How often the identity was late in this recovery.
@@ -76,35 +76,35 @@ impl Ledger {
         ensures value { result ≡ slice_index (ident_lates (past self.now)) place }
         ensures room { result + self.now.room < 2 ^ 64 }
     {
-        self.recovery.ident_lates[place.get() as usize]
+        self.eh.recovery.ident_lates[place.get() as usize]
     }
 
     /// Whether a hotplug was told in this recovery.
     pub fn was_hot(&self, place: Place) -> bool
         ensures { result ≡ slice_index_or (was_hot (past self.now)) place false }
     {
-        self.recovery.was_hot[place.get() as usize]
+        self.eh.recovery.was_hot[place.get() as usize]
     }
 
     /// What this recovery does, as its action told.
     pub fn action(&self, place: Place) -> Option<LinkAction>
         ensures { result ≡ slice_index_or (actions (past self.now)) place None }
     {
-        self.recovery.actions[place.get() as usize]
+        self.eh.recovery.actions[place.get() as usize]
     }
 
     /// What the log told in this recovery.
     pub fn log(&self, place: Place) -> Option<LogTold>
         ensures { result ≡ slice_index_or (logs (past self.now)) place None }
     {
-        self.recovery.logs[place.get() as usize]
+        self.eh.recovery.logs[place.get() as usize]
     }
 
     /// The times of the last two hotplugs.
     pub fn probes(&self, place: Place) -> ProbeTimes
         ensures { result ≡ slice_index_or (probes (past self.now)) place no_probes }
     {
-        self.probes[place.get() as usize]
+        self.eh.probes[place.get() as usize]
     }
 
     /// The UDMA mode.
@@ -147,14 +147,14 @@ impl Ledger {
     pub fn identity(&self, place: Place) -> &Option<IdentityTold>
         ensures { result.now ≡ identity_at (past self.now) place }
     {
-        self.identities.get(place)
+        self.eh.identities.get(place)
     }
 
     /// How many sectors the device has; 0 where none was identified.
     pub fn sectors(&self, place: Place) -> u64
         ensures { result ≡ sectors_at (past self.now) place }
     {
-        match self.identities.get(place) {
+        match self.eh.identities.get(place) {
             Some(identity) => identity.sectors,
             None => 0,
         }
@@ -164,7 +164,7 @@ impl Ledger {
     pub fn depth(&self, place: Place) -> u8
         ensures { result ≡ depth_at (past self.now) place }
     {
-        match self.identities.get(place) {
+        match self.eh.identities.get(place) {
             Some(identity) => identity.depth,
             None => 0,
         }
@@ -174,14 +174,14 @@ impl Ledger {
     pub fn identified_by(&self, place: Place) -> Option<DriveNo>
         ensures { result ≡ slice_index_or (identified_by self.now.head (past self.now)) place None }
     {
-        self.identified_by[place.get() as usize]
+        self.eh.identified_by[place.get() as usize]
     }
 
     /// Whether the drive would answer the last asking for its identity.
     pub fn is_ident_answered(&self, place: Place) -> bool
         ensures { result ≡ slice_index_or (is_ident_answered self.now.head (past self.now)) place false }
     {
-        self.ident_answered[place.get() as usize]
+        self.eh.ident_answered[place.get() as usize]
     }
 
     /// The generation of the device, 0 where none was identified.

@@ -153,7 +153,7 @@ impl Ledger {
     pub fn tasks(&self) -> &[Task]
         ensures { result.now ≡ tasks self.now.head (past self.now) }
     {
-        self.tasks.items()
+        self.eh.tasks.items()
     }
 
     /// By place the failed issue that set TFERR, where it stands, lent.
@@ -188,6 +188,6 @@ impl Ledger {
     pub fn host_told(&self) -> HostTold
         ensures { result ≡ host_told (past self.now) }
     {
-        self.recovery.host
+        self.eh.recovery.host
     }
 }
