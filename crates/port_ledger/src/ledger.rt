@@ -1,8 +1,11 @@
-ghost use Rattle.std.specs.Prelude.{◌≡◌, ◌∷◌, ◌<◌, [], IfOk, OnOk, OnErr};
+ghost use Rattle.std.specs.Prelude.{◌≡◌, ◌∷◌, ◌<◌, [], length, IfOk, OnOk, OnErr};
+ghost use Rattle.ata_base.specs.Limits.{most_places};
+ghost use Rattle.ata_trace.specs.Entries.{past_of};
 ghost use Rattle.ata_trace.specs.Event.Event.{Entered, Told};
 ghost use Rattle.ata_trace.specs.declared.act.Act.TheVariants as acts;
 ghost use Rattle.ata_trace.specs.declared.step.Step.TheVariants as steps;
 ghost use Rattle.ata_trace.specs.declared.who.Who.TheVariants as by;
+ghost use Rattle.host_queue.specs.Waiting.{no_lists};
 ghost use Rattle.port_past.specs.Clock.{clock};
 ghost use Rattle.port_ledger.specs.LedgerView.{Goes, past};
 ghost use Rattle.port_ledger.specs.Sound.{IsSound};
@@ -92,11 +95,12 @@ impl Ledger {
         ensures begins { IfOk result (λ l. l.begins ≡ 1) }
         ensures room { IfOk result (λ l. l.room ≡ 128) }
     {
-        let mut journal = Journal::new(alloc);
-        journal.reserve()?;
-        journal.begin(Ms { n: 0 }, Who::Boot, 0, Step::Boot);
-        let links = booted(head.drives.items());
+        let journal = begun(alloc)?;
+        let (commands, live, queues) = command_parts(alloc)?;
         let drives = DriveList::new(alloc, head.drives.items())?;
+        let completions = CompletionList::new(alloc)?;
+        let eh = EhParts::new(alloc)?;
+        let links = booted(head.drives.items());
         let mut ledger = Ledger {
             journal,
             head,
@@ -110,16 +114,16 @@ impl Ledger {
             issues: 0,
             settlings: 0,
             attachments: Attachments::new(),
-            commands: CommandTable::new(alloc)?,
+            commands,
             flights: Flights::new(),
             links,
             drives,
-            completions: CompletionList::new(alloc)?,
+            completions,
             causes: Causes::new(),
-            eh: EhParts::new(alloc)?,
+            eh,
             modes: Modes::new(),
-            live: LiveFlags::new(alloc)?,
-            queues: CommandQueues::new(alloc)?,
+            live,
+            queues,
             exclusive: None,
         };
         ledger.reserve()?;
@@ -254,4 +258,28 @@ impl Ledger {
         self.events += 1;
         self.room -= 1;
     }
+}
+
+// A journal in which the boot entry has begun, with room for its acts.
+fn begun(alloc: Global) -> Result<Journal, OutOfMemory>
+    ensures past { IfOk result (λ j. past_of j.entries ≡ Entered 0 by.Boot 0 steps.Boot ∷ []) }
+    ensures some { IfOk result (λ j. 0 < length j.entries) }
+{
+    let mut journal = Journal::new(alloc);
+    journal.reserve()?;
+    journal.begin(Ms { n: 0 }, Who::Boot, 0, Step::Boot);
+    Ok(journal)
+}
+
+// No command, none live, and none that waits.
+fn command_parts(alloc: Global) -> Result<(CommandTable, LiveFlags, CommandQueues), OutOfMemory>
+    ensures commands { IfOk result (λ parts. parts.0.list ≡ []) }
+    ensures live { IfOk result (λ parts. parts.1 ≡ []) }
+    ensures queues { IfOk result (λ parts. parts.2.lists ≡ no_lists most_places) }
+    ensures retried { IfOk result (λ parts. parts.2.retried ≡ []) }
+{
+    let commands = CommandTable::new(alloc)?;
+    let live = LiveFlags::new(alloc)?;
+    let queues = CommandQueues::new(alloc)?;
+    Ok((commands, live, queues))
 }
