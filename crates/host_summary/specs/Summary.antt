@@ -1,5 +1,5 @@
 -- What the journals of a host come to, in twelve numbers.
-use Rattle.std.specs.Prelude.{ℕ, ◌+◌, ◌-◌, ◌^◌, min, Bool, true, false, List, [], ◌∷◌, ◌++◌, length, filter, codes, decimal}
+use Rattle.std.specs.Prelude.{ℕ, ◌-◌, ◌^◌, min, Bool, true, false, List, [], ◌∷◌, ◌++◌, length, filter, codes, decimal}
 use Rattle.std.specs.List.{flat_map}
 use Rattle.ata_trace.specs.Entries.{EntryView}
 use Rattle.ata_trace.specs.Text.{joined}

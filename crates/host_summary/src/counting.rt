@@ -86,7 +86,6 @@ fn count_entry(summary: &mut Summary, entry: &Entry<'_>)
 }
 
 /// Counts acts.
-#[tactic(auto, using(crate::proofs::Counts::acts_more))]
 fn count_acts(summary: &mut Summary, acts: &Acts<'_>)
     ensures { summary.new ≡ with_acts summary.old acts.now }
 {
