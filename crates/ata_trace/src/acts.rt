@@ -1,8 +1,12 @@
-ghost use Rattle.std.specs.Prelude.{◌≡◌, ◌↔◌, ◌<◌, length, IsSome, slice_get};
+ghost use Rattle.std.specs.Prelude.{◌≡◌, ◌↔◌, ◌<◌, length, IsSome, slice_get, slice_index_or};
 ghost use Rattle.ata_trace.specs.Kept.{act_kept};
+ghost use Rattle.ata_trace.specs.Text.{act_line};
+ghost use Rattle.ata_trace.specs.declared.act.Act.{Act};
 
 use crate::act::Act;
 use crate::kept::{Kept, at_length};
+use crate::line::Line;
+use crate::text::set_act_line;
 use std::marker::Model;
 
 /// The acts of an entry, in order, lent by its journal. A contract sees them as a list.
@@ -24,6 +28,7 @@ impl<'a> Model for Acts<'a> {
 
 impl<'a> Acts<'a> {
     /// How many there are.
+    #[inline(always)]
     pub fn len(&self) -> usize
         ensures { result ≡ length self.now }
     {
@@ -31,6 +36,7 @@ impl<'a> Acts<'a> {
     }
 
     /// The act at `i`, counted from 0; `None` exactly past the end.
+    #[inline(always)]
     pub fn get(&self, i: usize) -> Option<LentAct<'a>>
         ensures found { IsSome result ↔ (i < length self.now) }
         ensures value { result ≡ slice_get self.now i }
@@ -40,9 +46,34 @@ impl<'a> Acts<'a> {
             None => None,
         }
     }
+
+    /// Makes the line that of the act at `i`, counted from 0, as `set_act_line` does. There has to be one.
+    pub fn set_line(&self, i: usize, line: &mut Line)
+        requires { i < length self.now }
+        ensures { (act : Act) → line.new ≡ act_line (slice_index_or self.now i act) }
+    {
+        match self.kept.get(i) {
+            Some(kept) => set_kept_line(line, kept, self.whole),
+            None => unreachable!(),
+        }
+    }
+}
+
+// Makes the line that of an act that is kept.
+fn set_kept_line(line: &mut Line, kept: &Kept, whole: &[Act])
+    ensures { line.new ≡ act_line (act_kept whole.now kept.now) }
+{
+    match kept {
+        Kept::Whole { number } => match whole.get(*number) {
+            Some(act) => set_act_line(line, act),
+            None => set_act_line(line, &Act::Nothing),
+        },
+        _ => set_act_line(line, &at_length(kept)),
+    }
 }
 
 // The act, which is made or lent.
+#[inline(always)]
 fn lend<'a>(kept: &Kept, whole: &'a [Act]) -> LentAct<'a>
     ensures { result ≡ act_kept whole.now kept.now }
 {
@@ -85,6 +116,7 @@ impl<'a> Model for LentAct<'a> {
 
 impl<'a> LentAct<'a> {
     /// The act.
+    #[inline(always)]
     pub fn get(&self) -> &Act
         ensures { result.now ≡ self.now }
     {

@@ -144,6 +144,7 @@ fn answer_in_short(act: &Act) -> Option<Kept>
 }
 
 // The act that is kept in short; of one that is kept whole, nothing.
+#[inline(always)]
 pub(crate) fn at_length(kept: &Kept) -> Act
     ensures { result ≡ short_kept kept.now }
 {
@@ -156,6 +157,7 @@ pub(crate) fn at_length(kept: &Kept) -> Act
 }
 
 // The same of the acts with one number at most.
+#[inline(always)]
 fn plain_at_length(kept: &Kept) -> Act
     ensures { result ≡ plain_kept kept.now }
 {
@@ -170,6 +172,7 @@ fn plain_at_length(kept: &Kept) -> Act
 }
 
 // The same of the acts that tell of an issue and of registers.
+#[inline(always)]
 fn issue_at_length(kept: &Kept) -> Act
     ensures { result ≡ issue_kept kept.now }
 {
@@ -205,6 +208,7 @@ fn issue_at_length(kept: &Kept) -> Act
 }
 
 // The same of an answer with success.
+#[inline(always)]
 fn answer_at_length(kept: &Kept) -> Act
     ensures { result ≡ answer_kept kept.now }
 {

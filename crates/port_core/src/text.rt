@@ -15,7 +15,7 @@ use crate::journal_ranges::{port_in_range, ports_in_range};
 use crate::port::Port;
 use ata_base::{Cmd, CmdId};
 use ata_io::{Sink, WriteFault, put_all};
-use ata_trace::{Act, Acts, Entry, Journal, Line, set_act_line, set_head_line};
+use ata_trace::{Acts, Entry, Journal, Line, set_head_line};
 
 /// Appends the text of a port to the sink, and no write failed; or `WriteFault` at the first write that
 /// failed, and a prefix of the text was appended. All that the text tells is in the ranges of its types, so that it is the
@@ -149,25 +149,15 @@ fn put_head<K: Sink>(entry: &Entry<'_>, line: &mut Line, sink: &mut K) -> Result
     put_line(line, sink)
 }
 
-/// The line of an act.
-fn put_act<K: Sink>(act: &Act, line: &mut Line, sink: &mut K) -> Result<(), WriteFault>
-    ensures { Writes K.written K.fault_count sink.old sink.new result (act_line act.now) }
-{
-    set_act_line(line, act);
-    put_line(line, sink)
-}
-
 /// A line for each act.
 fn put_acts<K: Sink>(acts: &Acts<'_>, line: &mut Line, sink: &mut K) -> Result<(), WriteFault>
     ensures { Writes K.written K.fault_count sink.old sink.new result (flat_map act_line acts.now) }
 {
     for i in 0..acts.len() {
-        match acts.get(i) {
-            Some(act) => match put_act(act.get(), line, sink) {
-                Ok(()) => {}
-                Err(_) => return Err(WriteFault),
-            },
-            None => unreachable!(),
+        acts.set_line(i, line);
+        match put_line(line, sink) {
+            Ok(()) => {}
+            Err(_) => return Err(WriteFault),
         }
     }
     Ok(())

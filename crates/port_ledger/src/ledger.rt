@@ -195,6 +195,7 @@ impl Ledger {
     }
 
     // The same of any act, told to each part.
+    #[inline(always)]
     fn note_change(&mut self, act: Act)
         requires room { 0 < self.old.room }
         requires sound { IsSound self.old.head (past self.old) act }

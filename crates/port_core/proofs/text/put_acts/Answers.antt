@@ -1,14 +1,21 @@
-use Rattle.std.proofs.Common.{sym}
+use Rattle.std.proofs.Common.{◌≡◌, ◌<◌, length, get_or, arith, sym}
+use Rattle.std.proofs.lemmas.List.{get_or_default}
 use Rattle.ata_trace.specs.Text.{act_line}
-use Rattle.port_core.proofs.Pieces.{at_element, list_cut, list_more}
+use Rattle.ata_trace.specs.declared.act.Act.{Act}
+use Rattle.ata_trace.specs.declared.act.Act.TheVariants.{Nothing}
+use Rattle.port_core.proofs.Pieces.{list_cut, list_more}
 use Rattle.port_core.proofs.text.put_acts.Goals as goal
 
 pub returns-in-Err : goal.returns-in-Err
 returns-in-Err g c =
-    let here = at_element c.args.acts.now c.loop-i.i c.in-Some.act (sym c.in-Some.ensures.value) in
-    list_cut act_line _ _ _ _ _ _ _ c.args.acts.now c.loop-i.i _ here.0 here.1 c.loop-i.invariant (rw c.get-in-Some.ensures at c.in-Err.ensures)
+    let within : c.loop-i.i < length c.args.acts.now = omega arith in
+    let act : Act = get_or c.args.acts.now c.loop-i.i Nothing in
+    list_cut act_line _ _ _ _ _ _ _ c.args.acts.now c.loop-i.i act within (get_or_default _ _ _ _ within) c.loop-i.invariant
+    (rw (c.set_line.ensures Nothing) at c.in-Err.ensures)
 
 pub loop-i-preserved : goal.loop-i-preserved
 loop-i-preserved g c =
-    let here = at_element c.args.acts.now c.loop-i.i c.in-Some.act (sym c.in-Some.ensures.value) in
-    list_more act_line _ _ _ _ _ _ c.args.acts.now c.loop-i.i _ here.0 here.1 c.loop-i.invariant (rw c.get-in-Some.ensures at c.in-Ok.ensures)
+    let within : c.loop-i.i < length c.args.acts.now = omega arith in
+    let act : Act = get_or c.args.acts.now c.loop-i.i Nothing in
+    list_more act_line _ _ _ _ _ _ c.args.acts.now c.loop-i.i act within (get_or_default _ _ _ _ within) c.loop-i.invariant
+    (rw (c.set_line.ensures Nothing) at c.in-Ok.ensures)
