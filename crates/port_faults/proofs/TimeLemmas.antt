@@ -1,9 +1,9 @@
 -- The entry of the timer.
-use Rattle.std.proofs.Common.{◌≡◌, ◌∙◌, ℕ, ◌+◌, Bool, true, false, not, ◌&&◌, nat_lt, List, [], ◌∷◌, ◌++◌, Option, length, drop, IsTrue, IsBitSet, ◌↔◌, refl, sym, ap, arith}
+use Rattle.std.proofs.Common.{◌≡◌, ◌∙◌, ℕ, ◌+◌, zero, suc, Bool, true, false, not, ◌&&◌, nat_lt, List, [], ◌∷◌, ◌++◌, Option, None, Some, length, drop, IsTrue, IsBitSet, ◌↔◌, refl, sym, ap, subst, arith}
 use Rattle.std.proofs.lemmas.Bool.{le-ltb, lt-ltb}
 use Rattle.ata_trace.specs.declared.act.Act.{Act}
 use Rattle.ata_trace.specs.declared.act.Act.TheVariants.{Drained, Requested}
-use Rattle.host_tags.specs.Slots.{flight_at}
+use Rattle.host_tags.specs.Slots.{flight_at, is_busy}
 use Rattle.host_tags.specs.declared.in_flight.InFlight.{InFlight}
 use Rattle.host_timer.specs.Due.{has_due, is_due}
 use Rattle.port_ledger.specs.LedgerView.{LedgerView}
@@ -42,6 +42,25 @@ time_told {first} {mid} {walked} {last} comes asked drained time drains walk req
     let acts : List Act = expiries time drained (slots_in first) in
     let two : Adds mid walked acts = adds_same (ap (expiries time drained) (drained_leaves comes drains)) walk in
     adds_more drains (adds_same (with_request_is asked mid.room walked.room acts two.room) (adds_more two request))
+
+-- ---- where no tag is busy
+
+none_busy_expires :
+    (time : ℕ) (drained : Bool) (flights : List (Option InFlight)) → ((tag : ℕ) → IsTrue (is_busy flights tag) → ⊥)
+    → expiries time drained flights ≡ []
+none_busy_expires time drained [] none = refl
+none_busy_expires time drained (None ∷ flights) none = none_busy_expires time drained flights (λ tag. none (suc tag))
+none_busy_expires time drained (Some f ∷ flights) none = absurd (none zero refl)
+
+-- the timer tells of none
+pub none_expires :
+    (time busy : ℕ) (drained : Bool) (ledger : LedgerView)
+    → ((tag : ℕ) → IsBitSet busy tag ↔ IsTrue (is_busy (slots_in ledger) tag)) → busy ≡ 0
+    → Adds ledger ledger (expiries time drained (slots_in ledger))
+none_expires time busy drained ledger bits idle =
+    let none : expiries time drained (slots_in ledger) ≡ [] =
+    none_busy_expires time drained (slots_in ledger) (λ tag is. subst (λ mask. IsBitSet mask tag) idle ((bits tag).1 is) refl) in
+    rw none (record { past = refl; head = refl; room = omega arith })
 
 -- ---- a mask of the issues that are due, taken before the walk
 

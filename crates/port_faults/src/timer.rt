@@ -95,9 +95,20 @@ fn is_drained(ledger: &Ledger, comes: bool) -> bool
     comes || ledger.is_drained()
 }
 
-/// The timer tells once of each issue that is due, in tag order.
-#[tactic(auto, using(port_telling::proofs::WalkLemmas::walk_begins))]
+/// The timer tells once of each issue that is due, in tag order; none is where no tag is busy.
 fn expire_all(ledger: &mut Ledger, clock: Ms, drained: bool)
+    requires room { 32 ≤ ledger.old.room }
+    ensures adds { Adds ledger.old ledger.new (expiries clock.n drained (slots_in ledger.old)) }
+    ensures spare { ledger.old.room ≤ ledger.new.room + 32 }
+{
+    if ledger.slots().busy() != 0 {
+        expire_busy(ledger, clock, drained);
+    }
+}
+
+/// The timer walks over all tags.
+#[tactic(auto, using(port_telling::proofs::WalkLemmas::walk_begins))]
+fn expire_busy(ledger: &mut Ledger, clock: Ms, drained: bool)
     requires room { 32 ≤ ledger.old.room }
     ensures adds { Adds ledger.old ledger.new (expiries clock.n drained (slots_in ledger.old)) }
     ensures spare { ledger.old.room ≤ ledger.new.room + 32 }

@@ -6,7 +6,7 @@ use Rattle.port_telling.proofs.AddLemmas.{adds_same}
 use Rattle.port_faults.proofs.TimeLemmas.{due_still}
 use Rattle.port_telling.proofs.WalkLemmas.{walk_goes, walk_ends, walk_alone}
 use Rattle.port_telling.specs.Walks.{slots_in, completions_in}
-use Rattle.port_faults.proofs.timer.expire_all.Goals as goal
+use Rattle.port_faults.proofs.timer.expire_busy.Goals as goal
 
 pub loop-tag-preserved : goal.loop-tag-preserved
 loop-tag-preserved c =

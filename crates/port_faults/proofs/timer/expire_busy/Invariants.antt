@@ -1,6 +1,6 @@
 use Rattle.port_rules.specs.Time.{expiry}
 use Rattle.port_telling.specs.Walks.{ToldUpTo, alone, completions_in}
-use Rattle.port_faults.proofs.timer.expire_all.Given as goal
+use Rattle.port_faults.proofs.timer.expire_busy.Given as goal
 
 abbrev pub invariant-loop-tag : goal.invariant-loop-tag
 invariant-loop-tag l =
