@@ -1,5 +1,5 @@
 -- A script has at most 8 ports.
-use Rattle.std.proofs.Common.{◌≡◌, ℕ, ◌+◌, ◌<◌, ◌≤◌, Bool, true, false, ◌&&◌, zero, suc, List, [], ◌∷◌, ◌++◌, length, map, length-append, codes, refl, ap, ◌∙◌, arith}
+use Rattle.std.proofs.Common.{◌≡◌, ℕ, ◌+◌, ◌≤◌, Bool, true, false, ◌&&◌, zero, suc, List, [], ◌∷◌, length, length-append, codes, refl, ap, arith}
 use Rattle.std.specs.Prelude.{Option, None, Some, nat_eq, nat_le, if◌then◌else◌}
 use Rattle.std.specs.Str.{bytes_eq}
 use Rattle.std.proofs.Math.Bridge.{le_prop}
@@ -12,7 +12,7 @@ use Rattle.ata_trace.specs.Reading.{value_from, number_in}
 use Rattle.ata_trace.specs.Told.{second, third}
 use Rattle.ata_script.specs.Draft.{DraftView, begun, is_in_order, no_steps, with_drive, with_item}
 use Rattle.ata_script.specs.Forms.{rule_of, is_head}
-use Rattle.ata_script.specs.Grammar.{Line, fault_in, fault_of, first_rule, is_skipped, later_fault, later_rule, lines_of, or_later, or_order, said_in, said_of, version_in, with_line, with_lines, words_rule}
+use Rattle.ata_script.specs.Grammar.{Line, fault_in, first_rule, is_skipped, later_fault, later_rule, lines_of, or_later, or_order, said_in, version_in, with_line, with_lines, words_rule}
 use Rattle.ata_script.specs.Heads.{DriveSaid, PortSaid, port_said}
 use Rattle.ata_script.specs.Items.{Item}
 use Rattle.ata_script.specs.Items.Item.{Port, Drive, Taken}

@@ -1,5 +1,6 @@
 pub mod CalmLemmas
 pub mod FewPorts
+pub mod RoundLemmas
 pub mod SettleLemmas
 pub mod SettledPorts
 pub mod TakenSteps

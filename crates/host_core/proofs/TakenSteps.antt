@@ -1,11 +1,11 @@
 -- What a step more makes at a host, and what a port more.
-use Rattle.std.proofs.Common.{◌≡◌, ◌≢◌, ℕ, zero, suc, ◌+◌, ◌*◌, ◌<◌, ◌≤◌, ◌^◌, ◌==◌, Bool, true, false, List, [], ◌∷◌, ◌++◌, length, map, take, slice_get, slice_index, slice_set, get_or, replicate, refl, sym, ap, subst, ◌∙◌, arith}
+use Rattle.std.proofs.Common.{◌≡◌, ◌≢◌, ℕ, zero, suc, ◌+◌, ◌*◌, ◌<◌, ◌≤◌, ◌^◌, ◌==◌, Bool, true, false, List, [], ◌∷◌, ◌++◌, length, take, slice_get, slice_index, slice_set, get_or, replicate, refl, sym, ap, subst, ◌∙◌, arith}
 use Rattle.std.specs.Prelude.{IfSome, if◌then◌else◌}
 use Rattle.std.proofs.lemmas.Bool.{eq-eqb, eqb-true}
 use Rattle.std.proofs.lemmas.List.{append-nil, take_all, take_more, map-append, length-map, length-replicate, length-take-le, length-set, get_or-set_same, get_or-set_other, get_or-replicate}
 use Rattle.ata_base.proofs.Truth.{not_true}
 use Rattle.ata_script.specs.declared.port_head.PortHead.{PortHead}
-use Rattle.ata_trace.specs.Entries.{EntryView, past_of}
+use Rattle.ata_trace.specs.Entries.{past_of}
 use Rattle.ata_trace.specs.declared.step.Step.{Step}
 use Rattle.ata_trace.specs.declared.who.Who.TheVariants.{Actor}
 use Rattle.port_rules.specs.Legal.{entry_after}

@@ -1,7 +1,8 @@
 use Rattle.std.proofs.Common.{◌≡◌, ◌∷◌, [], arith}
 use Rattle.std.proofs.lemmas.Result.{IfOk-weaker, on_err_weaker, on_ok_weaker}
 use Rattle.ata_trace.specs.declared.step.Step.TheVariants.{Expire, Irq, Recover}
-use Rattle.host_core.proofs.SettleLemmas.{kick_goes, kicks_end, last_entries, last_idle, on_err_any, round_cut, rounding_goes, work_goes, works_end}
+use Rattle.host_core.proofs.RoundLemmas.{kick_goes, kicks_end, last_entries, last_idle, round_cut, rounding_goes, work_goes, works_end}
+use Rattle.host_core.proofs.SettleLemmas.{on_err_any}
 use Rattle.port_rules.specs.Settle.{are_idle}
 use Rattle.host_core.specs.Settled.{round_after}
 use Rattle.host_core.proofs.settling.play_round.Goals as goal

@@ -1,4 +1,4 @@
-use Rattle.host_core.proofs.SettleLemmas.{IsRounding, kicks_from, works_from}
+use Rattle.host_core.proofs.RoundLemmas.{IsRounding, kicks_from, works_from}
 use Rattle.host_core.proofs.settling.play_round.Given as goal
 
 abbrev pub invariant-loop-kicked : goal.invariant-loop-kicked

@@ -1,4 +1,4 @@
-use Rattle.std.proofs.Common.{◌∙◌, ap, append-nil, false, true, sym}
+use Rattle.std.proofs.Common.{◌∙◌, ap, append-nil, sym}
 use Rattle.ata_trace.specs.Entries.{past_of}
 use Rattle.host_core.proofs.SettleLemmas.{busy_round, last_round, on_err_any, played_part, round_part, tick_follows}
 use Rattle.port_rules.specs.Coming.{coming}

@@ -1,4 +1,4 @@
-use Rattle.host_core.proofs.SettleLemmas.{take_idle}
+use Rattle.host_core.proofs.RoundLemmas.{take_idle}
 use Rattle.host_core.proofs.settling.take.Goals as goal
 
 pub returns-then-idle-clause-idle : goal.returns-then-idle-clause-idle
