@@ -11,7 +11,7 @@ use Rattle.host_timer.specs.Coming.{coming_of, lesser, time_above, waited_times}
 use Rattle.port_past.specs.Clock.{clock}
 use Rattle.port_past.specs.Drives.{drive_at}
 use Rattle.port_past.specs.Slots.{slots}
-use Rattle.port_rules.specs.Coming.{coming, phase_times, ready_time, waits_since}
+use Rattle.port_rules.specs.Coming.{coming, phase_times, waits_since}
 use Rattle.port_rules.specs.Phase.{phase}
 use Rattle.port_steps.specs.Awaited.{deadline_of, ready_in}
 

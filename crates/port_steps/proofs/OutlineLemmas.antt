@@ -1,9 +1,9 @@
 -- What is asked of the outline of issues in flight, asked of the issues themselves.
-use Rattle.std.proofs.Common.{◌≡◌, ◌∙◌, ℕ, zero, suc, Bool, true, false, not, ◌&&◌, ◌==◌, IsTrue, IsBitSet, ◌↔◌, subst, ap, List, [], ◌∷◌, Option, None, Some, map, take, length, refl, sym, arith}
+use Rattle.std.proofs.Common.{◌≡◌, ℕ, zero, suc, Bool, true, false, not, ◌&&◌, ◌==◌, IsTrue, IsBitSet, ◌↔◌, subst, List, [], ◌∷◌, Option, None, Some, take, refl, sym}
 use Rattle.std.proofs.lemmas.List.{length-map, take-map}
 use Rattle.std.specs.List.{list_any, position, position_or_len}
 use Rattle.std.specs.Prelude.{is_none, option_map}
-use Rattle.host_defer.specs.Obstacles.{is_at, is_unqueued_at}
+use Rattle.host_defer.specs.Obstacles.{is_unqueued_at}
 use Rattle.host_tags.specs.Slots.{free_below, is_busy, is_queued}
 use Rattle.host_tags.specs.declared.in_flight.InFlight.{InFlight}
 use Rattle.port_rules.specs.Kick.{outline, place_and_queuing}
@@ -28,18 +28,20 @@ pub free_outlined : (limit : ℕ) (flights : List (Option InFlight)) → free_be
 free_outlined limit flights =
     rw (take-map (option_map place_and_queuing) limit flights) (position_outlined (take limit flights))
 
--- where no tag is busy, no issue is at a place
-none_busy_at :
-    (x : ℕ) (flights : List (Option InFlight)) → ((tag : ℕ) → IsTrue (is_busy flights tag) → ⊥)
-    → list_any (is_at x) (outline flights) ≡ false
-none_busy_at x [] none = refl
-none_busy_at x (None ∷ flights) none = none_busy_at x flights (λ tag. none (suc tag))
-none_busy_at x (Some f ∷ flights) none = absurd (none zero refl)
+-- where no tag is busy, no issue passes a test
+none_busy :
+    (test : Option (ℕ × Bool) → Bool) (flights : List (Option InFlight)) → test None ≡ false
+    → ((tag : ℕ) → IsTrue (is_busy flights tag) → ⊥) → list_any test (outline flights) ≡ false
+none_busy test [] free none = refl
+none_busy test (None ∷ flights) free none = rw free (none_busy test flights free (λ tag. none (suc tag)))
+none_busy test (Some f ∷ flights) free none = absurd (none zero refl)
 
-pub none_at :
-    (x busy : ℕ) (flights : List (Option InFlight)) → ((tag : ℕ) → IsBitSet busy tag ↔ IsTrue (is_busy flights tag)) → busy ≡ 0
-    → false ≡ list_any (is_at x) (outline flights)
-none_at x busy flights bits idle = sym (none_busy_at x flights (λ tag is. subst (λ m. IsBitSet m tag) idle ((bits tag).1 is) refl))
+pub none_such :
+    (test : Option (ℕ × Bool) → Bool) (busy : ℕ) (flights : List (Option InFlight)) → test None ≡ false
+    → ((tag : ℕ) → IsBitSet busy tag ↔ IsTrue (is_busy flights tag)) → busy ≡ 0
+    → false ≡ list_any test (outline flights)
+none_such test busy flights free bits idle =
+    sym (none_busy test flights free (λ tag is. subst (λ m. IsBitSet m tag) idle ((bits tag).1 is) refl))
 
 and_not : (b queued : Bool) → queued ≡ true → (b && not queued) ≡ false
 and_not true queued is = rw is refl

@@ -58,7 +58,7 @@ fn is_port_busy(ledger: &Ledger, place: Place) -> bool
     let head = ledger.head();
     head.pmp
         && !head.fbs
-        && (any_elsewhere(ledger.slots().flights(), place) || is_taken(ledger.exclusive(), place))
+        && (any_elsewhere(ledger.slots(), place) || is_taken(ledger.exclusive(), place))
 }
 
 /// The lowest free tag, for a queued command below the depth of its device.
@@ -107,7 +107,17 @@ fn any_unqueued_flight_at(flights: &[Option<InFlight>], x: Place) -> bool
     flights.iter().any(|slot| is_unqueued_at(slot, x))
 }
 
-fn any_elsewhere(flights: &[Option<InFlight>], x: Place) -> bool
+/// Whether an issue in flight is at another place than `x`; none is where no tag is busy.
+fn any_elsewhere(slots: &Slots, x: Place) -> bool
+    ensures { result ≡ list_any (is_elsewhere x) (outline slots.now) }
+{
+    if slots.busy() == 0 {
+        return false;
+    }
+    any_flight_elsewhere(slots.flights(), x)
+}
+
+fn any_flight_elsewhere(flights: &[Option<InFlight>], x: Place) -> bool
     ensures { result ≡ list_any (is_elsewhere x) (outline flights.now) }
 {
     flights.iter().any(|slot| is_elsewhere(slot, x))
