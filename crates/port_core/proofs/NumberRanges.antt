@@ -1,5 +1,5 @@
 -- Numbers in their ranges, and acts by their groups.
-use Rattle.std.proofs.Common.{◌≡◌, ℕ, ◌<◌, ◌≤◌, ◌^◌, List, [], ◌∷◌, length, refl, sym, subst, arith}
+use Rattle.std.proofs.Common.{◌≡◌, ℕ, ◌<◌, ◌≤◌, ◌^◌, refl, arith}
 use Rattle.ata_trace.specs.Ranges.{IsAct, IsIn}
 use Rattle.ata_trace.specs.declared.act.Act.{Act}
 use Rattle.port_core.specs.ActGroups.{ActGroup, group_of}

@@ -1,5 +1,5 @@
 -- What the texts of ports tell, word for word, and its ranges.
-use Rattle.std.proofs.Common.{◌≡◌, ℕ, zero, suc, ◌+◌, ◌-◌, ◌<◌, ◌≤◌, ◌^◌, ◌==◌, Bool, true, false, List, [], ◌∷◌, ◌++◌, length, map, take, get_or, codes, refl, sym, ap, ◌∙◌, subst, arith, add-one, append_assoc}
+use Rattle.std.proofs.Common.{◌≡◌, ℕ, zero, suc, ◌+◌, ◌-◌, ◌<◌, ◌≤◌, ◌==◌, Bool, true, false, List, [], ◌∷◌, ◌++◌, length, map, take, get_or, refl, sym, ap, ◌∙◌, subst, arith, add-one, append_assoc}
 use Rattle.std.specs.Prelude.{if◌then◌else◌}
 use Rattle.std.specs.List.{flat_map, list_any}
 use Rattle.ata_base.specs.declared.cmd.Cmd.{Cmd}
@@ -13,7 +13,7 @@ use Rattle.ata_trace.specs.declared.step.Step.TheVariants.{Submit, Kick, Work, I
 use Rattle.port_core.proofs.NumberRanges.{is_in}
 use Rattle.port_core.specs.Hosts.{AreNumbered, journals_in}
 use Rattle.port_core.specs.PortView.{PortView}
-use Rattle.port_core.specs.Text.{counts_text, end_line, entry_text, live_line, live_text, port_text, rest_text, texts_from, texts_of}
+use Rattle.port_core.specs.Text.{entry_text, live_line, live_text, texts_from, texts_of}
 use Rattle.port_core.specs.Told.{AreInRange, IsEntry, IsTold, ids_of, live_of, told_by, told_from, told_of}
 use Rattle.port_past.specs.Commands.{commands}
 use Rattle.port_past.specs.Live.{live}

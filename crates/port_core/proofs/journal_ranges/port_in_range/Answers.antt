@@ -1,4 +1,4 @@
-use Rattle.std.proofs.Common.{ℕ, List, length, subst, ap, ◌∙◌}
+use Rattle.std.proofs.Common.{ℕ, List, length, subst, ◌∙◌}
 use Rattle.ata_base.specs.declared.cmd.Cmd.{Cmd}
 use Rattle.ata_trace.specs.Entries.{EntryView}
 use Rattle.ata_trace.specs.Ranges.{IsLong}

@@ -1,5 +1,5 @@
-use Rattle.std.proofs.Common.{ℕ, zero, suc, ◌<◌, ◌^◌, List, [], ◌∷◌, get_or, Fits, w64, arith}
-use Rattle.ata_trace.specs.Ranges.{AreLong, IsLong}
+use Rattle.std.proofs.Common.{ℕ, suc, ◌<◌, ◌^◌, List, [], ◌∷◌, get_or, Fits, w64, arith}
+use Rattle.ata_trace.specs.Ranges.{AreLong}
 use Rattle.port_core.proofs.NumberRanges.{is_in}
 use Rattle.port_core.proofs.number_ranges.are_long.Goals as goal
 
