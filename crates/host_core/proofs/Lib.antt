@@ -1,3 +1,4 @@
+pub mod AloneLemmas
 pub mod CalmLemmas
 pub mod FewPorts
 pub mod RoundLemmas

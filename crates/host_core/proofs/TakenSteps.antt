@@ -1,7 +1,7 @@
 -- What a step more makes at a host, and what a port more.
 use Rattle.std.proofs.Common.{◌≡◌, ◌≢◌, ℕ, zero, suc, ◌+◌, ◌*◌, ◌<◌, ◌≤◌, ◌^◌, ◌==◌, Bool, true, false, List, [], ◌∷◌, ◌++◌, length, take, slice_get, slice_index, slice_set, get_or, replicate, refl, sym, ap, subst, ◌∙◌, arith}
 use Rattle.std.specs.Prelude.{IfSome, if◌then◌else◌}
-use Rattle.std.proofs.lemmas.Bool.{eq-eqb, eqb-true}
+use Rattle.std.proofs.lemmas.Bool.{eq-eqb, eqb-false, eqb-true}
 use Rattle.std.proofs.lemmas.List.{append-nil, take_all, take_more, map-append, length-map, length-replicate, length-take-le, length-set, get_or-set_same, get_or-set_other, get_or-replicate}
 use Rattle.ata_base.proofs.Truth.{not_true}
 use Rattle.ata_script.specs.declared.port_head.PortHead.{PortHead}
@@ -22,7 +22,7 @@ steps_here : (number : ℕ) (steps : List (ℕ × ℕ × Step)) (taken : ℕ × 
 steps_here number steps taken at =
     steps_at_push number steps taken ∙ ap (λ b. steps_at number steps ++ (if b then (taken.0, taken.2) ∷ [] else [])) (eq-eqb taken.1 number at)
 
-steps_elsewhere : (number : ℕ) (steps : List (ℕ × ℕ × Step)) (taken : ℕ × ℕ × Step) → taken.1 ≢ number
+pub steps_elsewhere : (number : ℕ) (steps : List (ℕ × ℕ × Step)) (taken : ℕ × ℕ × Step) → taken.1 ≢ number
     → steps_at number (steps ++ taken ∷ []) ≡ steps_at number steps
 steps_elsewhere number steps taken away =
     steps_at_push number steps taken
@@ -56,9 +56,6 @@ counted_none = record {
   all = length-replicate {A = ℕ} 256 0;
   each = λ port actor there within. get_or-replicate 256 (32 * port + actor) 0 0 (omega (arith, there, within));
 }
-
-other_number : (x y : ℕ) → (x == y) ≡ false → x ≢ y
-other_number x y e = λ same. cc (sym e ∙ eq-eqb x y same)
 
 -- how many steps an actor has at a port, with one more
 count_more : (port actor : ℕ) (steps : List (ℕ × ℕ × Step)) (taken : ℕ × ℕ × Step) (b : Bool) → (taken.1 == port) ≡ b
@@ -97,9 +94,9 @@ counted_more counts steps taken there within are = record {
       ∙ ap (λ n. n + 1) (are.each port actor few small)
       ∙ sym c
   chosen port actor few small true false e f c =
-      other port actor few small (λ same. other_number taken.0 actor f (omega (arith, same, eqb-true taken.1 port e))) ∙ sym c
+      other port actor few small (λ same. eqb-false taken.0 actor f (omega (arith, same, eqb-true taken.1 port e))) ∙ sym c
   chosen port actor few small false d e f c =
-      other port actor few small (λ same. other_number taken.1 port e (omega (arith, same, within, small))) ∙ sym c
+      other port actor few small (λ same. eqb-false taken.1 port e (omega (arith, same, within, small))) ∙ sym c
 
 -- a change that leaves the heads, the journals
 heads_at : (place : ℕ) (change : PortView → PortView) (ports : List PortView) → ((port : PortView) → (change port).head ≡ port.head)
@@ -123,7 +120,7 @@ room_made zero (first ∷ rest) = refl
 room_made (suc place) (first ∷ rest) = room_made place rest
 
 -- the journal of a port, with one more step at it
-entries_here : (number : ℕ) (port : PortView) (steps : List (ℕ × ℕ × Step)) (taken : ℕ × ℕ × Step) (seq : ℕ)
+pub entries_here : (number : ℕ) (port : PortView) (steps : List (ℕ × ℕ × Step)) (taken : ℕ × ℕ × Step) (seq : ℕ)
     → taken.1 ≡ number → seq ≡ count_of taken.0 (steps_at taken.1 steps) → port.entries ≡ run port.head (asked_at number steps)
     → (stepped (Actor taken.0) seq taken.2 port).entries ≡ run port.head (asked_at number (steps ++ taken ∷ []))
 entries_here number port steps taken seq at turn made =
@@ -213,12 +210,12 @@ pub replayed_all : (heads : List PortHead) (steps : List (ℕ × ℕ × Step)) (
 replayed_all heads steps n ports turns replayed all = subst (λ (steps : List (ℕ × ℕ × Step)). IsPlayed heads steps ports) (take_all n steps all) replayed.host
 
 -- an actor's count is small
-pub turn_small : (heads : List PortHead) (steps : List (ℕ × ℕ × Step)) (n : ℕ) (ports : List PortView) (turns : List ℕ) (port actor : ℕ)
-    → IsReplayed heads steps n ports turns → n < length steps → length steps < 2 ^ 64 → port < 8 → actor < 32 → slice_index turns (32 * port + actor) + 1 < 2 ^ 64
-turn_small heads steps n ports turns port actor replayed within all there small =
+pub turn_small : (steps : List (ℕ × ℕ × Step)) (n : ℕ) (turns : List ℕ) (port actor : ℕ)
+    → AreCounted turns (take n steps) → n < length steps → length steps < 2 ^ 64 → port < 8 → actor < 32 → slice_index turns (32 * port + actor) + 1 < 2 ^ 64
+turn_small steps n turns port actor are within all there small =
     omega (
       arith,
-      replayed.counts.each port actor there small,
+      are.each port actor there small,
       count_few actor (steps_at port (take n steps)),
       at_few port (take n steps),
       length-take-le n steps (omega (arith, within)),

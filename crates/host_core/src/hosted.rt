@@ -79,7 +79,7 @@ fn started(
 
 // Ports with these heads, after these steps. Each step goes to the port of its number, and is passed over where
 // there is none.
-#[tactic(auto, using(crate::proofs::TakenSteps::replayed_none, crate::proofs::TakenSteps::replayed_more, crate::proofs::TakenSteps::replayed_all, crate::proofs::TakenSteps::turn_small))]
+#[tactic(auto, using(crate::proofs::TakenSteps::replayed_none, crate::proofs::TakenSteps::replayed_more, crate::proofs::TakenSteps::replayed_all))]
 fn hosted(
     alloc: Global,
     heads: &[PortHead],

@@ -1,6 +1,7 @@
 //! The host: all ports of a script, booted, its steps taken at them, and settled.
 #![tactic(auto)]
 
+mod alone;
 mod hosted;
 mod laws;
 mod settling;
@@ -8,6 +9,7 @@ mod turns;
 mod versions;
 mod worked;
 
+pub use alone::replay_port;
 pub use hosted::{boot, replay, start_port};
 pub use laws::calm_scripts_end_well;
 pub use settling::{settle, settle_all};

@@ -6,7 +6,7 @@ pub loop-taken-init : goal.loop-taken-init
 loop-taken-init c = replayed_none _ _ _ _ c.in_ok-host.ensures c.new-turns.ensures
 
 pub next-seq-requires : goal.next-seq-requires
-next-seq-requires c there small = turn_small _ _ _ _ _ _ _ c.loop-taken.invariant c.loop-taken-test.true (search rules) there small
+next-seq-requires c there small = turn_small _ _ _ _ _ c.loop-taken.invariant.counts c.loop-taken-test.true (search rules) there small
 
 pub loop-taken-preserved : goal.loop-taken-preserved
 loop-taken-preserved c =
