@@ -132,7 +132,7 @@ fn take(port: &mut Port, step: &Step, idle: bool) -> Result<bool, OutOfMemory>
     ensures err { OnErr result (port.new.entries ≡ port.old.entries) }
 {
     port.reserve()?;
-    let seq = port.settled();
+    let seq = port.settle_count();
     port.step(Who::Settle, seq, step);
-    Ok(idle && port.idle_last())
+    Ok(idle && port.is_idle_last())
 }

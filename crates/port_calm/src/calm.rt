@@ -25,7 +25,7 @@ pub fn calm_ports_end_well()
     ensures { (head : PortHead) → (journal : List EntryView) → IsLegal head journal → IsCalmJournal journal → (rounds : ℕ) → length (live (past_of journal)) ≤ rounds → EndsWell (past_of journal) (settling head rounds (past_of journal)) }
 {}
 
-/// As many rounds as commands were accepted are enough, so two more are too.
+/// As many rounds as commands were accepted are enough, and so are more.
 pub fn rounds_for_all_are_enough()
     ensures { (head : PortHead) → (journal : List EntryView) → IsLegal head journal → IsCalmJournal journal → (rounds : ℕ) → length (commands (past_of journal)) ≤ rounds → EndsWell (past_of journal) (settling head rounds (past_of journal)) }
 {}

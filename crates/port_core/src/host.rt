@@ -51,8 +51,8 @@ impl Host {
         Ok(())
     }
 
-    /// Makes room for one step at the port of this number; where there is none, for nothing. All other ports stay,
-    /// and after a refusal this one too.
+    /// Makes room for one step at the port of this number, and does nothing where there is no such port. Refused where there
+    /// is no memory. All other ports stay, and after a refusal this one too.
     #[tactic(auto, using(crate::proofs::Hosts::changed_past, crate::proofs::Hosts::port_changed, crate::proofs::Hosts::port_stays))]
     pub fn reserve(&mut self, number: PortNo) -> Result<(), OutOfMemory>
         ensures ok { OnOk result (self.new ≡ at_port number with_room self.old) }

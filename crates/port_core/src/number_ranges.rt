@@ -110,7 +110,6 @@ pub(crate) fn name_in_range<const N: usize>(name: &DriveName<N>)
 }
 
 /// Stamps.
-
 pub(crate) fn stamps_in_range(stamps: &Stamps)
     ensures { AreStamps stamps.now }
 {

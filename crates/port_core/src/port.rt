@@ -162,7 +162,7 @@ impl Port {
     }
 
     /// Whether recovery is asked for or runs.
-    pub fn recovering(&self) -> bool
+    pub fn is_recovering(&self) -> bool
         ensures { result ≡ is_recovering (past_of self.now.entries) }
     {
         self.ledger.is_recovering()
@@ -178,7 +178,7 @@ impl Port {
 
     /// Whether the last entry has only `nothing`, `deferred` and `waiting` acts.
     #[tactic(auto, using(crate::proofs::Settles::idle_some, crate::proofs::Settles::idle_none))]
-    pub fn idle_last(&self) -> bool
+    pub fn is_idle_last(&self) -> bool
         ensures { result ≡ is_idle_last self.now.entries }
     {
         let journal = self.ledger.journal();
@@ -189,7 +189,7 @@ impl Port {
     }
 
     /// How many entries of the settling there are.
-    pub fn settled(&self) -> u64
+    pub fn settle_count(&self) -> u64
         ensures { result ≡ settle_count (past_of self.now.entries) }
     {
         self.ledger.settle_count()

@@ -10,7 +10,7 @@ use port_ledger::Ledger;
 /// The last time that there is, in ms.
 const LAST_TIME: u64 = 4_611_686_018_427_387_904;
 
-/// Time passes, but not past the last time.
+/// Time passes by so many ms, 0 to 1,000,000; where that would go past the last time, nothing happens.
 pub fn tick(ledger: &mut Ledger, ms: Tick)
     requires room { 1 ≤ ledger.old.room }
     ensures { Adds ledger.old ledger.new (tick_acts (past ledger.old) ms) }

@@ -18,7 +18,7 @@ use port_recovery::phase;
 
 /// The time to which a settling port ticks: the least time above the present for which it waits, in ms, and `None` exactly
 /// where there is no such time. These are the deadlines of the issues in flight that recovery doesn't own, the time at
-/// which a port gives up waiting, and of an open reset or identity its deadline and when its drive is ready.
+/// which a port gives up waiting, the deadline of an open reset or identity, and of a reset also when its drive is ready.
 #[tactic(auto, using(crate::proofs::AwaitedLemmas::coming_is))]
 pub fn coming(ledger: &Ledger) -> Option<Ms>
     requires tries { AreFewTries (place_told (past ledger.now)) (ident_lates (past ledger.now)) }

@@ -85,6 +85,7 @@ fn any_at(slots: &Slots, x: Place) -> bool
     any_flight_at(slots.flights(), x)
 }
 
+/// The same, by a walk over the slots.
 fn any_flight_at(flights: &[Option<InFlight>], x: Place) -> bool
     ensures { result ≡ list_any (is_at x) (outline flights.now) }
 {
@@ -101,6 +102,7 @@ fn any_unqueued_at(slots: &Slots, x: Place) -> bool
     any_unqueued_flight_at(slots.flights(), x)
 }
 
+/// The same, by a walk over the slots.
 fn any_unqueued_flight_at(flights: &[Option<InFlight>], x: Place) -> bool
     ensures { result ≡ list_any (is_unqueued_at x) (outline flights.now) }
 {
@@ -117,6 +119,7 @@ fn any_elsewhere(slots: &Slots, x: Place) -> bool
     any_flight_elsewhere(slots.flights(), x)
 }
 
+/// The same, by a walk over the slots.
 fn any_flight_elsewhere(flights: &[Option<InFlight>], x: Place) -> bool
     ensures { result ≡ list_any (is_elsewhere x) (outline flights.now) }
 {

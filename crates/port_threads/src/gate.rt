@@ -1,8 +1,10 @@
 /// Called before and after each step of an actor, 0 to 31, outside every hold. `made` counts the steps that the actor made
 /// before this one, over all ports; it stops at the last value of its type. No contract depends on a gate.
 pub trait Gate {
+    /// Before a step.
     fn before(&self, actor: u8, made: u32);
 
+    /// After it; not called where there was no memory for the step.
     fn after(&self, actor: u8, made: u32);
 }
 

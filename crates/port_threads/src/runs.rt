@@ -22,6 +22,7 @@ use std::sync::Wait;
 use std::thread::{Threads, join};
 use turnstile::Turnstile;
 
+// How many actors there are at most: 0 to 31.
 const ACTORS: u8 = 32;
 
 /// Runs every actor of the script that has a step, each on a thread of its own, or in the caller where no thread can be made,

@@ -15,15 +15,15 @@ next-seq-requires c there small = turn_small _ _ _ _ _ c.loop-taken.invariant.co
 pub loop-taken-preserved : goal.loop-taken-preserved
 loop-taken-preserved c =
     elim c.if-eq.branch [
-      then-eq+in_ok-take w ↦
-        rw w.port-is
-        (alone_here c.args.number _ _ _ _ w.take.new.port _ _ c.taken-item.result c.next-seq.result
-        c.loop-taken.invariant c.loop-taken-test.true c.taken-item.is c.next-seq.ensures.port c.next-seq.ensures.actor
-        c.next-seq.ensures.number c.next-seq.ensures.counted
-        (search rules) w.in_ok-take.ensures.number w.in_ok-take.ensures.head w.in_ok-take.ensures.entries)
-    | else-eq w ↦
-        rw w.port-is
-        (alone_elsewhere c.args.number _ _ _ _ _ _ c.taken-item.result
-        c.loop-taken.invariant c.loop-taken-test.true c.taken-item.is c.next-seq.ensures.port c.next-seq.ensures.actor
-        c.next-seq.ensures.counted (eqb-false c.taken-item.result.1 c.args.number (sym w.if-eq.ensures)))
+      | then-eq+in_ok-take w ↦
+          rw w.port-is
+          (alone_here c.args.number _ _ _ _ w.take.new.port _ _ c.taken-item.result c.next-seq.result
+          c.loop-taken.invariant c.loop-taken-test.true c.taken-item.is c.next-seq.ensures.port c.next-seq.ensures.actor
+          c.next-seq.ensures.number c.next-seq.ensures.counted
+          (search rules) w.in_ok-take.ensures.number w.in_ok-take.ensures.head w.in_ok-take.ensures.entries)
+      | else-eq w ↦
+          rw w.port-is
+          (alone_elsewhere c.args.number _ _ _ _ _ _ c.taken-item.result
+          c.loop-taken.invariant c.loop-taken-test.true c.taken-item.is c.next-seq.ensures.port c.next-seq.ensures.actor
+          c.next-seq.ensures.counted (eqb-false c.taken-item.result.1 c.args.number (sym w.if-eq.ensures)))
     ]

@@ -1,6 +1,6 @@
 use Rattle.std.proofs.Common.{◌∙◌}
 use Rattle.port_core.proofs.Settles.{idle_some}
-use Rattle.port_core.proofs.port.Port.idle_last.Goals as goal
+use Rattle.port_core.proofs.port.Port.is_idle_last.Goals as goal
 
 pub returns-in-Some : goal.returns-in-Some
 returns-in-Some c =
