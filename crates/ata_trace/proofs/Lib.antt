@@ -3,6 +3,7 @@ pub mod DigitCounts
 pub mod Digits
 pub mod HeadLemmas
 pub mod KeptLemmas
+pub mod LastLemmas
 pub mod LinesBack
 pub mod NameLemmas
 pub mod NumberLemmas
@@ -11,5 +12,6 @@ pub mod Pasts
 pub mod StampLemmas
 pub mod StepsBack
 pub mod TextsBack
+mod Walks
 pub mod Words
 pub mod WordsBack

@@ -6,8 +6,11 @@ pub mod Kept
 pub mod Lent
 pub mod LentActs
 pub mod Names
+pub mod OpenEntries
+pub mod OpenView
 pub mod Parts
 pub mod Ranges
+pub mod Ranks
 pub mod Reading
 pub mod ScriptParts
 pub mod ScriptRanges

@@ -1,3 +1,6 @@
+ghost use Rattle.std.specs.Prelude.{◌≡◌};
+
+use crate::act_copy::copy_of;
 use crate::names::{ModelName, SerialName};
 use crate::refusal::Refusal;
 use ata_base::{
@@ -271,4 +274,13 @@ pub enum Act {
     },
     /// `nothing`: there was nothing to do.
     Nothing,
+}
+
+impl Act {
+    /// The same act once more.
+    pub fn copy(&self) -> Act
+        ensures { result ≡ self.now }
+    {
+        copy_of(self)
+    }
 }

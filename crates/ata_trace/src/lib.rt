@@ -4,15 +4,19 @@
 #![tactic(auto)]
 
 mod act;
+mod act_copy;
 mod act_text;
 mod acts;
+mod before;
 mod entry;
 mod journal;
 mod kept;
+mod last;
 mod laws;
 mod line;
 mod names;
 mod number;
+mod open_entry;
 mod parts;
 mod pieces;
 mod reading;
@@ -34,6 +38,7 @@ pub use journal::Journal;
 pub use laws::{one_act, one_head, one_text};
 pub use line::Line;
 pub use names::{DriveName, ModelName, SerialName};
+pub use open_entry::OpenEntry;
 pub use parts::{Parts, Words, same};
 pub use reading::value;
 pub use refusal::Refusal;

@@ -1,4 +1,4 @@
-use Rattle.std.proofs.Common.{◌≡◌, ℕ, ◌≤◌, Bool, true, false, IsTrue, List, [], ◌∷◌, Option, length, take, refl, sym, subst}
+use Rattle.std.proofs.Common.{◌≡◌, ℕ, false, IsTrue, List, Option, refl, sym}
 use Rattle.std.specs.Io.KnownBytes.{Appends, IsAtEnd}
 use Rattle.ata_io.specs.Writing.{WritesPart}
 use Rattle.ata_script.specs.declared.script.Script.{Script}

@@ -1,5 +1,5 @@
 -- Heads that say the same are the same, so journals follow from what is said.
-use Rattle.std.proofs.Common.{◌≡◌, ◌≤◌, ℕ, Bool, true, not, ◌||◌, ◌==◌, List, [], ◌∷◌, codes, length, map, refl, sym, ap, ◌∙◌}
+use Rattle.std.proofs.Common.{◌≡◌, ◌≤◌, ℕ, true, not, ◌||◌, ◌==◌, List, [], ◌∷◌, codes, length, map, refl, sym, ap, ◌∙◌}
 use Rattle.std.proofs.Math.Path.{PathP, to_path_p}
 use Rattle.std.proofs.Props.{props}
 use Rattle.ata_base.specs.Limits.{most_drive_sectors}

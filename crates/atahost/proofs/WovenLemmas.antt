@@ -1,11 +1,10 @@
 -- The ports of a run, settled.
-use Rattle.std.proofs.Common.{◌≡◌, ◌∙◌, ℕ, ◌+◌, List, [], ◌∷◌, refl, sym, ap, subst}
+use Rattle.std.proofs.Common.{◌≡◌, ℕ, ◌+◌, List, [], ◌∷◌, sym, subst}
 use Rattle.ata_script.specs.declared.port_head.PortHead.{PortHead}
 use Rattle.ata_trace.specs.declared.step.Step.{Step}
-use Rattle.ata_trace.specs.Entries.{EntryView}
 use Rattle.atahost.specs.Woven.{IsSettledRun}
 use Rattle.host_core.specs.Calm.{AreCalmPorts, AreWellEnded, HaveAtMost}
-use Rattle.port_core.specs.Hosts.{heads_in, journals_in, settled_in, settled_of}
+use Rattle.port_core.specs.Hosts.{heads_in, journals_in, settled_in}
 use Rattle.port_core.specs.PortView.{PortView}
 use Rattle.port_core.specs.Weave.{AreLegalFor}
 use Rattle.port_rules.specs.Legal.{IsLegal}

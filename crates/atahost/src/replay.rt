@@ -102,7 +102,16 @@ pub(crate) fn printed(host: &Host) -> Status
         → Prints before after text (lives_of (journals_in host.now)) result }
     ensures faults { (count : ℕ) → write_faults_after result count ≡ count }
 {
-    match host.live() {
+    printed_with(host.live())
+}
+
+// The same, where so many commands are live.
+pub(crate) fn printed_with(live: u32) -> Status
+    ensures printed { (before after : Option (List ℕ)) → (text : List ℕ) → Appends before after text
+        → Prints before after text live result }
+    ensures faults { (count : ℕ) → write_faults_after result count ≡ count }
+{
+    match live {
         0 => Status::Done,
         k => Status::Left { k },
     }

@@ -51,7 +51,7 @@ pub fn atahost<R: Threads + Wait + Sync, S: Source, K: Sink, G: Gate + Sync>(
     match command_of(words) {
         Some(Command::Replay { rounds }) => replay_all(alloc, source, sink, rounds),
         Some(Command::Run { rounds }) => run_all(rt, alloc, source, sink, rounds, gate),
-        Some(Command::Gen { n, rounds }) => gen_all(alloc, n, rounds, sink),
+        Some(Command::Gen { n, rounds }) => gen_all(rt, alloc, n, rounds, sink),
         None => Status::Usage,
     }
 }

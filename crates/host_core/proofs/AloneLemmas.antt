@@ -1,4 +1,4 @@
--- A port of a script that takes its own steps alone, and the host that such ports make.
+-- A port of a script that takes its own steps alone, and the journals of such ports.
 use Rattle.std.proofs.Common.{◌≡◌, ◌≢◌, ℕ, ◌+◌, ◌*◌, ◌<◌, ◌≤◌, List, [], ◌∷◌, ◌++◌, length, take, slice_index, slice_set, get_or, replicate, sym, ap, subst, ◌∙◌, arith}
 use Rattle.std.proofs.lemmas.List.{take_all, take_more, map-append, length-take-le}
 use Rattle.ata_script.specs.declared.port_head.PortHead.{PortHead}
@@ -95,9 +95,9 @@ pub alone_all :
 alone_all number head steps n port turns alone all =
     alone.ran ∙ ap (λ steps. run head (asked_at number steps)) (take_all n steps all)
 
--- ---- the ports of a host, one after the other
+-- ---- the journal of the next port
 
-settled_push :
+pub settled_push :
     (rounds number : ℕ) (heads : List PortHead) (head : PortHead) (steps : List (ℕ × ℕ × Step))
     → journals_from rounds number (heads ++ head ∷ []) steps
     ≡ journals_from rounds number heads steps ++ settled_journal rounds head (asked_at (number + length heads) steps) ∷ []
@@ -106,23 +106,3 @@ settled_push rounds number (first ∷ rest) head steps =
     ap (λ journals. settled_journal rounds first (asked_at number steps) ∷ journals)
     (settled_push rounds (number + 1) rest head steps
     ∙ ap (λ n. journals_from rounds (number + 1) rest steps ++ settled_journal rounds head (asked_at n steps) ∷ []) (omega arith))
-
--- a host with the next port
-pub settled_more :
-    (rounds : ℕ) (heads : List PortHead) (n : ℕ) (head : PortHead) (steps : List (ℕ × ℕ × Step)) (ports : List PortView) (port : PortView)
-    → n < length heads → head ≡ get_or heads n head
-    → IsHostOf rounds (take n heads) steps ports → port.head ≡ head → port.entries ≡ settled_journal rounds head (asked_at n steps)
-    → IsHostOf rounds (take (n + 1) heads) steps (ports ++ port ∷ [])
-settled_more rounds heads n head steps ports port within here host same made =
-    let more : take (n + 1) heads ≡ take n heads ++ head ∷ [] = take_more heads n head within ∙ ap (λ h. take n heads ++ h ∷ []) (sym here) in
-    let count : length (take n heads) ≡ n = length-take-le n heads (omega (arith, within)) in
-    let place : n ≡ 0 + length (take n heads) = omega (arith, count) in
-    record {
-      same = map-append (λ port. port.head) ports (port ∷ []) ∙ ap (λ heads. heads ++ port.head ∷ []) host.same ∙ ap (λ h. take n heads ++ h ∷ []) same ∙ sym more;
-      journals =
-          map-append (λ port. port.entries) ports (port ∷ [])
-          ∙ ap (λ journals. journals ++ port.entries ∷ []) host.journals
-          ∙ ap (λ entries. journals_of rounds (take n heads) steps ++ entries ∷ []) (made ∙ ap (λ n. settled_journal rounds head (asked_at n steps)) place)
-          ∙ sym (settled_push rounds 0 (take n heads) head steps)
-          ∙ ap (λ heads. journals_of rounds heads steps) (sym more);
-    }

@@ -12,7 +12,7 @@ use Rattle.ata_trace.specs.declared.step.Step.{Step}
 use Rattle.ata_trace.specs.declared.step.Step.TheVariants.{Kick, Work, Irq, Expire, Recover}
 use Rattle.ata_trace.specs.declared.who.Who.TheVariants.{Settle}
 use Rattle.host_core.specs.Settled.{IsPartOf, is_idle_entry, made_after, round_after, settle_entry}
-use Rattle.port_core.proofs.Settles.{last_pushed}
+use Rattle.ata_trace.proofs.LastLemmas.{last_pushed}
 use Rattle.port_core.specs.Idle.{is_idle_last}
 use Rattle.port_core.specs.PortView.{PortView}
 use Rattle.port_past.specs.Heads.{places_of}

@@ -5,11 +5,12 @@ mod alone;
 mod hosted;
 mod laws;
 mod settling;
+mod stations;
 mod turns;
 mod versions;
 mod worked;
 
-pub use alone::replay_port;
+pub use alone::play_alone;
 pub use hosted::{boot, replay, start_port};
 pub use laws::calm_scripts_end_well;
 pub use settling::{settle, settle_all};

@@ -6,9 +6,12 @@ ghost use Rattle.port_core.specs.Hosts.{heads_in, journals_in, lives_of, settled
 ghost use Rattle.port_past.specs.Live.{live};
 ghost use Rattle.port_rules.specs.Settle.{are_idle, settling};
 
+use crate::stations::{
+    coming, is_idle_last, is_settled, live, now, places, settle_count, stays_legal,
+};
 use ata_base::{OutOfMemory, Pick, Place, Tick};
 use ata_trace::{Step, Who};
-use port_core::{Host, Port};
+use port_core::{Host, Port, Station};
 
 /// Settles each port of a host, in the order of their numbers, as `settle` does. The answer is how many commands are live at
 /// all ports. Where nothing has disturbed a port and there are as many rounds as commands were accepted at a port, none is
@@ -46,25 +49,25 @@ fn settle_ports(ports: &mut [Port], rounds: u32) -> Result<(), OutOfMemory>
 /// port's earlier entries of the settling. The answer is how many commands are live. Where nothing has disturbed the port
 /// and there are as many rounds as commands were accepted, none is live, each is answered `ok`, and no tick is made. Where
 /// memory is wanted, the entries so far are the first of them.
-pub fn settle(port: &mut Port, rounds: u32) -> Result<u32, OutOfMemory>
-    ensures number { port.new.number ≡ port.old.number }
-    ensures head { port.new.head ≡ port.old.head }
-    ensures entries { OnOk result (port.new.entries ≡ port.old.entries ++ settling port.old.head rounds (past_of port.old.entries)) }
-    ensures live { IfOk result (λ count. count ≡ length (live (past_of port.new.entries))) }
-    ensures calm { IsCalmPort port.old → OnOk result (HasAtMost rounds port.new.entries → IsWellEnded port.new.entries) }
-    ensures part { OnErr result (IsSettledInPart port.old.head rounds port.old.entries port.new.entries) }
+pub fn settle<S: Station>(port: &mut S, rounds: u32) -> Result<u32, OutOfMemory>
+    ensures number { (S.seen port.new).number ≡ (S.seen port.old).number }
+    ensures head { (S.seen port.new).head ≡ (S.seen port.old).head }
+    ensures entries { OnOk result ((S.seen port.new).entries ≡ (S.seen port.old).entries ++ settling (S.seen port.old).head rounds (past_of (S.seen port.old).entries)) }
+    ensures live { IfOk result (λ count. count ≡ length (live (past_of (S.seen port.new).entries))) }
+    ensures calm { IsCalmPort (S.seen port.old) → OnOk result (HasAtMost rounds (S.seen port.new).entries → IsWellEnded (S.seen port.new).entries) }
+    ensures part { OnErr result (IsSettledInPart (S.seen port.old).head rounds (S.seen port.old).entries (S.seen port.new).entries) }
 {
-    port.stays_legal();
+    stays_legal(port);
     settle_rounds(port, rounds)?;
-    Ok(port.live())
+    Ok(live(port))
 }
 
 /// Makes at most so many rounds.
-fn settle_rounds(port: &mut Port, rounds: u32) -> Result<(), OutOfMemory>
-    ensures number { port.new.number ≡ port.old.number }
-    ensures head { port.new.head ≡ port.old.head }
-    ensures entries { OnOk result (port.new.entries ≡ port.old.entries ++ settling port.old.head rounds (past_of port.old.entries)) }
-    ensures part { OnErr result (IsSettledInPart port.old.head rounds port.old.entries port.new.entries) }
+fn settle_rounds<S: Station>(port: &mut S, rounds: u32) -> Result<(), OutOfMemory>
+    ensures number { (S.seen port.new).number ≡ (S.seen port.old).number }
+    ensures head { (S.seen port.new).head ≡ (S.seen port.old).head }
+    ensures entries { OnOk result ((S.seen port.new).entries ≡ (S.seen port.old).entries ++ settling (S.seen port.old).head rounds (past_of (S.seen port.old).entries)) }
+    ensures part { OnErr result (IsSettledInPart (S.seen port.old).head rounds (S.seen port.old).entries (S.seen port.new).entries) }
 {
     for round in 0..rounds {
         let _ = round;
@@ -76,22 +79,22 @@ fn settle_rounds(port: &mut Port, rounds: u32) -> Result<(), OutOfMemory>
 }
 
 /// Makes a round, and a tick where it is idle and there is a time to wait for; tells whether a round may follow.
-fn settle_round(port: &mut Port) -> Result<bool, OutOfMemory>
-    ensures number { port.new.number ≡ port.old.number }
-    ensures head { port.new.head ≡ port.old.head }
-    ensures goes { IfOk result (λ follows. (left : ℕ) → port.new.entries ++ (if follows then settling port.old.head left (past_of port.new.entries) else [])
-        ≡ port.old.entries ++ settling port.old.head (suc left) (past_of port.old.entries)) }
-    ensures part { OnErr result ((left : ℕ) → IsSettledInPart port.old.head (suc left) port.old.entries port.new.entries) }
+fn settle_round<S: Station>(port: &mut S) -> Result<bool, OutOfMemory>
+    ensures number { (S.seen port.new).number ≡ (S.seen port.old).number }
+    ensures head { (S.seen port.new).head ≡ (S.seen port.old).head }
+    ensures goes { IfOk result (λ follows. (left : ℕ) → (S.seen port.new).entries ++ (if follows then settling (S.seen port.old).head left (past_of (S.seen port.new).entries) else [])
+        ≡ (S.seen port.old).entries ++ settling (S.seen port.old).head (suc left) (past_of (S.seen port.old).entries)) }
+    ensures part { OnErr result ((left : ℕ) → IsSettledInPart (S.seen port.old).head (suc left) (S.seen port.old).entries (S.seen port.new).entries) }
 {
-    if port.is_settled() {
+    if is_settled(port) {
         return Ok(false);
     }
     if !play_round(port)? {
         return Ok(true);
     }
-    match port.coming() {
+    match coming(port) {
         Some(time) => {
-            let ms = Tick::at(time.n - port.now().n);
+            let ms = Tick::at(time.n - now(port).n);
             let _ = take(port, &Step::Tick { ms }, true)?;
             Ok(true)
         }
@@ -100,20 +103,20 @@ fn settle_round(port: &mut Port) -> Result<bool, OutOfMemory>
 }
 
 /// Makes the steps of a round; tells whether all its entries are idle.
-fn play_round(port: &mut Port) -> Result<bool, OutOfMemory>
-    ensures number { port.new.number ≡ port.old.number }
-    ensures head { port.new.head ≡ port.old.head }
-    ensures entries { OnOk result (port.new.entries ≡ port.old.entries ++ round_after port.old.head port.old.entries) }
-    ensures idle { IfOk result (λ idle. idle ≡ are_idle (round_after port.old.head port.old.entries)) }
-    ensures part { OnErr result (IsPartOf (port.old.entries ++ round_after port.old.head port.old.entries) port.old.entries port.new.entries) }
+fn play_round<S: Station>(port: &mut S) -> Result<bool, OutOfMemory>
+    ensures number { (S.seen port.new).number ≡ (S.seen port.old).number }
+    ensures head { (S.seen port.new).head ≡ (S.seen port.old).head }
+    ensures entries { OnOk result ((S.seen port.new).entries ≡ (S.seen port.old).entries ++ round_after (S.seen port.old).head (S.seen port.old).entries) }
+    ensures idle { IfOk result (λ idle. idle ≡ are_idle (round_after (S.seen port.old).head (S.seen port.old).entries)) }
+    ensures part { OnErr result (IsPartOf ((S.seen port.old).entries ++ round_after (S.seen port.old).head (S.seen port.old).entries) (S.seen port.old).entries (S.seen port.new).entries) }
 {
-    let places = port.places();
+    let count = places(port);
     let mut idle = true;
-    for kicked in 0..places {
+    for kicked in 0..count {
         let place = Place::at(kicked);
         idle = take(port, &Step::Kick { place }, idle)?;
     }
-    for worked in 0..places {
+    for worked in 0..count {
         let place = Place::at(worked);
         let pick = Pick::at(0);
         idle = take(port, &Step::Work { place, pick }, idle)?;
@@ -124,15 +127,15 @@ fn play_round(port: &mut Port) -> Result<bool, OutOfMemory>
 }
 
 /// A port takes the next step of its settling; tells whether its entry is idle, where those before it are.
-fn take(port: &mut Port, step: &Step, idle: bool) -> Result<bool, OutOfMemory>
-    ensures number { port.new.number ≡ port.old.number }
-    ensures head { port.new.head ≡ port.old.head }
-    ensures entries { OnOk result (port.new.entries ≡ port.old.entries ++ settle_entry port.old.head (past_of port.old.entries) step.now ∷ []) }
-    ensures idle { IfOk result (λ still. still ≡ (idle && is_idle_entry (settle_entry port.old.head (past_of port.old.entries) step.now))) }
-    ensures err { OnErr result (port.new.entries ≡ port.old.entries) }
+fn take<S: Station>(port: &mut S, step: &Step, idle: bool) -> Result<bool, OutOfMemory>
+    ensures number { (S.seen port.new).number ≡ (S.seen port.old).number }
+    ensures head { (S.seen port.new).head ≡ (S.seen port.old).head }
+    ensures entries { OnOk result ((S.seen port.new).entries ≡ (S.seen port.old).entries ++ settle_entry (S.seen port.old).head (past_of (S.seen port.old).entries) step.now ∷ []) }
+    ensures idle { IfOk result (λ still. still ≡ (idle && is_idle_entry (settle_entry (S.seen port.old).head (past_of (S.seen port.old).entries) step.now))) }
+    ensures err { OnErr result ((S.seen port.new).entries ≡ (S.seen port.old).entries) }
 {
     port.reserve()?;
-    let seq = port.settle_count();
+    let seq = settle_count(port);
     port.step(Who::Settle, seq, step);
-    Ok(idle && port.is_idle_last())
+    Ok(idle && is_idle_last(port))
 }

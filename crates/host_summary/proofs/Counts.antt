@@ -1,20 +1,17 @@
 -- What is counted act by act is what the filters count.
-use Rattle.std.proofs.Common.{arith, ◌≡◌, ℕ, ◌+◌, ◌-◌, ◌≤◌, ◌<◌, ◌^◌, Bool, true, false, List, [], ◌∷◌, ◌++◌, length, filter, Some, slice_get, get_or, take, refl, sym, ◌∙◌, ap, subst, length-append}
+use Rattle.std.proofs.Common.{arith, ◌≡◌, ℕ, ◌+◌, ◌-◌, ◌≤◌, ◌<◌, ◌^◌, Bool, true, false, List, [], ◌∷◌, ◌++◌, length, filter, get_or, take, refl, sym, ◌∙◌, ap, subst, length-append}
 use Rattle.std.specs.Prelude.{if◌then◌else◌}
-use Rattle.std.proofs.lemmas.List.{map-append, take_more}
+use Rattle.std.proofs.lemmas.List.{take_more}
 use Rattle.std.proofs.lemmas.List.Elements.{filter-append}
 use Rattle.std.proofs.lemmas.Grind.{flat_map-append}
 use Rattle.ata_io.specs.Faults.{one_more}
 use Rattle.ata_trace.specs.Entries.{EntryView}
 use Rattle.ata_trace.specs.declared.act.Act.{Act}
 use Rattle.ata_trace.specs.declared.act.Act.TheVariants.{Accepted, Refused, Issued, AnsweredOk, AnsweredFailed, AnsweredNodev, Retried, Begun, Recorded}
-use Rattle.ata_trace.specs.declared.step.Step.{Step}
-use Rattle.host_summary.specs.Summary.{acts_in, acts_like, entries_in, is_accepted, is_begun, is_failed, is_issued, is_nodev, is_ok, is_recorded, is_refused, is_retried, is_submit, summary_of, told}
+use Rattle.host_summary.specs.Summary.{acts_in, acts_like, entries_in, is_accepted, is_begun, is_failed, is_issued, is_nodev, is_ok, is_recorded, is_refused, is_retried, summary_of, told}
 use Rattle.host_summary.specs.Tally.{none_of, with_act, with_acts, with_entries, with_entry, with_journals}
 use Rattle.host_summary.specs.declared.summary.Summary.{Summary}
-use Rattle.port_core.proofs.Pieces.{at_element}
-use Rattle.port_core.specs.Hosts.{journals_in, lives_of}
-use Rattle.port_core.specs.PortView.{PortView}
+use Rattle.port_core.specs.Hosts.{lives_in}
 
 -- ---- one more behind others
 
@@ -22,40 +19,19 @@ acts_behind : (s : Summary) (acts : List Act) (act : Act) → with_acts s (acts 
 acts_behind s [] act = refl
 acts_behind s (first ∷ acts) act = acts_behind (with_act s first) acts act
 
-entries_behind : (s : Summary) (entries : List EntryView) (entry : EntryView) → with_entries s (entries ++ entry ∷ []) ≡ with_entry (with_entries s entries) entry
+pub entries_behind : (s : Summary) (entries : List EntryView) (entry : EntryView) → with_entries s (entries ++ entry ∷ []) ≡ with_entry (with_entries s entries) entry
 entries_behind s [] entry = refl
 entries_behind s (first ∷ entries) entry = entries_behind (with_entry s first) entries entry
-
-journals_behind :
-    (s : Summary) (journals : List (List EntryView)) (entries : List EntryView)
-    → with_journals s (journals ++ entries ∷ []) ≡ with_entries (with_journals s journals) entries
-journals_behind s [] entries = refl
-journals_behind s (first ∷ journals) entries = journals_behind (with_entries s first) journals entries
 
 -- the first elements of a list and the next are one more of the first
 taken_next : {X : Type 0} (xs : List X) (i : ℕ) (x : X) → i < length xs → x ≡ get_or xs i x → take (i + 1) xs ≡ take i xs ++ x ∷ []
 taken_next xs i x within here = take_more xs i x within ∙ ap (λ y. take i xs ++ y ∷ []) (sym here)
 
--- one act more was counted, one entry, the journal of one port
+-- one act more was counted
 pub acts_more :
     (s : Summary) (acts : List Act) (i : ℕ) (act : Act) → i < length acts → act ≡ get_or acts i act
     → with_acts s (take (i + 1) acts) ≡ with_act (with_acts s (take i acts)) act
 acts_more s acts i act within here = ap (with_acts s) (taken_next acts i act within here) ∙ acts_behind s (take i acts) act
-
-pub entries_more :
-    (s : Summary) (entries : List EntryView) (i : ℕ) (entry : EntryView) → Some entry ≡ slice_get entries i
-    → with_entries s (take (i + 1) entries) ≡ with_entry (with_entries s (take i entries)) entry
-entries_more s entries i entry is =
-    let here = at_element entries i entry (sym is) in
-    ap (with_entries s) (taken_next entries i entry here.0 here.1) ∙ entries_behind s (take i entries) entry
-
-pub ports_more :
-    (s : Summary) (ports : List PortView) (i : ℕ) (port : PortView) → i < length ports → port ≡ get_or ports i port
-    → with_journals s (journals_in (take (i + 1) ports)) ≡ with_entries (with_journals s (journals_in (take i ports))) port.entries
-ports_more s ports i port within here =
-    ap (λ p. with_journals s (journals_in p)) (taken_next ports i port within here)
-    ∙ ap (with_journals s) (map-append (λ p. p.entries) (take i ports) (port ∷ []))
-    ∙ journals_behind s (journals_in (take i ports)) port.entries
 
 -- ---- a number that counts acts
 
@@ -300,16 +276,10 @@ commands_stay = record { act = λ s a. each s a; entry = λ s n. refl } where
   each s (Accepted id) = refl
   each s a = refl
 
-live_stay : Stays (λ s. s.live)
-live_stay = record { act = λ s a. each s a; entry = λ s n. refl } where
-  each : (s : Summary) (a : Act) → (with_act s a).live ≡ s.live
-  each s (Accepted id) = refl
-  each s a = refl
-
 -- ---- all of them
 
 -- summaries with the same numbers
-same_numbers : (s t : Summary)
+pub same_numbers : (s t : Summary)
     → s.commands ≡ t.commands
     → s.accepted ≡ t.accepted
     → s.refused ≡ t.refused
@@ -339,22 +309,24 @@ same_numbers s t commands accepted refused issued ok failed nodev retried runs r
       live = live j;
     }
 
--- counted from 0 on, journals give what is told of them
-pub all_counted :
-    (steps : List (ℕ × ℕ × Step)) (journals : List (List EntryView))
-    → with_journals (none_of (told (length (filter is_submit steps))) (lives_of journals)) journals ≡ summary_of steps journals
-all_counted steps journals =
-    let s : Summary = none_of (told (length (filter is_submit steps))) (lives_of journals) in
-    same_numbers (with_journals s journals) (summary_of steps journals)
-    (journals_stay (λ s. s.commands) commands_stay s journals)
-    (from_nothing (λ s. s.accepted) is_accepted accepted_counts s journals refl)
-    (from_nothing (λ s. s.refused) is_refused refused_counts s journals refl)
-    (from_nothing (λ s. s.issued) is_issued issued_counts s journals refl)
-    (from_nothing (λ s. s.ok) is_ok ok_counts s journals refl)
-    (from_nothing (λ s. s.failed) is_failed failed_counts s journals refl)
-    (from_nothing (λ s. s.nodev) is_nodev nodev_counts s journals refl)
-    (from_nothing (λ s. s.retried) is_retried retried_counts s journals refl)
-    (from_nothing (λ s. s.runs) is_begun runs_counts s journals refl)
-    (from_nothing (λ s. s.recorded) is_recorded recorded_counts s journals refl)
-    (entries_from_nothing s journals refl)
-    (journals_stay (λ s. s.live) live_stay s journals)
+-- counted from 0 on, the entries of a port give what is told of them
+pub one_counted :
+    (entries : List EntryView) (live : ℕ) (s : Summary) → s ≡ with_entries (none_of 0 0) entries → live ≡ lives_in entries
+    → record s { live = live } ≡ summary_of [] (entries ∷ [])
+one_counted entries live s are lives =
+    let z : Summary = none_of 0 0 in
+    let journals : List (List EntryView) = entries ∷ [] in
+    ap (λ (c : Summary). record c { live = live }) are
+    ∙ same_numbers (record (with_journals z journals) { live = live }) (summary_of [] journals)
+    (journals_stay (λ s. s.commands) commands_stay z journals)
+    (from_nothing (λ s. s.accepted) is_accepted accepted_counts z journals refl)
+    (from_nothing (λ s. s.refused) is_refused refused_counts z journals refl)
+    (from_nothing (λ s. s.issued) is_issued issued_counts z journals refl)
+    (from_nothing (λ s. s.ok) is_ok ok_counts z journals refl)
+    (from_nothing (λ s. s.failed) is_failed failed_counts z journals refl)
+    (from_nothing (λ s. s.nodev) is_nodev nodev_counts z journals refl)
+    (from_nothing (λ s. s.retried) is_retried retried_counts z journals refl)
+    (from_nothing (λ s. s.runs) is_begun runs_counts z journals refl)
+    (from_nothing (λ s. s.recorded) is_recorded recorded_counts z journals refl)
+    (entries_from_nothing z journals refl)
+    (omega (arith, lives))

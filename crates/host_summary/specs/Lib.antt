@@ -1,3 +1,4 @@
 pub mod Summary
+pub mod Sums
 pub mod Tally
 pub mod Worked

@@ -1,28 +1,16 @@
 ghost use Rattle.std.specs.Prelude.{◌≡◌, length, filter};
 ghost use Rattle.ata_io.specs.Faults.{one_more};
-ghost use Rattle.ata_trace.specs.Lent.{entry_lent};
-ghost use Rattle.host_summary.specs.Summary.{is_submit, summary_of};
-ghost use Rattle.host_summary.specs.Tally.{none_of, with_act, with_acts, with_entries, with_entry, with_journals};
-ghost use Rattle.port_core.specs.Hosts.{journals_in};
+ghost use Rattle.ata_trace.specs.OpenEntries.{last_acts};
+ghost use Rattle.host_summary.specs.Summary.{is_submit};
+ghost use Rattle.host_summary.specs.Tally.{none_of, with_act, with_acts};
 
 use crate::summary::Summary;
 use ata_base::{ActorNo, PortNo};
-use ata_trace::{Act, Acts, Entry, Journal, Step};
-use port_core::{Host, Port};
-
-/// What the journals of a host come to, and how many of these steps, those of its script, submit a command. One pass, and
-/// no memory.
-#[tactic(auto, using(crate::proofs::Counts::all_counted, crate::proofs::Counts::told_itself))]
-pub fn summary_of(steps: &[(ActorNo, PortNo, Step)], host: &Host) -> Summary
-    ensures { result ≡ summary_of steps.now (journals_in host.now) }
-{
-    let mut summary = nothing(submitted(steps) as u64, u64::from(host.live()));
-    count_ports(&mut summary, host.ports());
-    summary
-}
+use ata_trace::{Act, Step};
+use port_core::Machine;
 
 /// The summary of no journal, with the numbers that aren't counted in journals.
-fn nothing(commands: u64, live: u64) -> Summary
+pub(crate) fn nothing(commands: u64, live: u64) -> Summary
     ensures { result ≡ none_of commands live }
 {
     Summary {
@@ -42,7 +30,7 @@ fn nothing(commands: u64, live: u64) -> Summary
 }
 
 /// How many steps submit a command.
-fn submitted(steps: &[(ActorNo, PortNo, Step)]) -> usize
+pub(crate) fn submitted(steps: &[(ActorNo, PortNo, Step)]) -> usize
     ensures { result ≡ length (filter is_submit steps.now) }
 {
     steps.iter().filter(|taken| is_submit(taken)).count()
@@ -55,45 +43,21 @@ fn is_submit(taken: &(ActorNo, PortNo, Step)) -> bool
     matches!(taken.2, Step::Submit { .. })
 }
 
-/// Counts the journals of ports.
-#[tactic(auto, using(crate::proofs::Counts::ports_more))]
-fn count_ports(summary: &mut Summary, ports: &[Port])
-    ensures { summary.new ≡ with_journals summary.old (journals_in ports.now) }
-{
-    for port in ports {
-        count_journal(summary, port.journal());
-    }
-}
-
-/// Counts the entries of a journal.
-fn count_journal(summary: &mut Summary, journal: &Journal)
-    ensures { summary.new ≡ with_entries summary.old journal.now.entries }
-{
-    for i in 0..journal.len() {
-        match journal.entry(i) {
-            Some(entry) => count_entry(summary, &entry),
-            None => unreachable!(),
-        }
-    }
-}
-
-/// Counts an entry and its acts.
-fn count_entry(summary: &mut Summary, entry: &Entry<'_>)
-    ensures { summary.new ≡ with_entry summary.old (entry_lent entry.now) }
+/// Counts the last entry of a machine.
+pub(crate) fn count_last(summary: &mut Summary, machine: &Machine)
+    ensures { summary.new ≡ with_acts (record summary.old { entries = one_more summary.old.entries }) (last_acts machine.now.entries) }
 {
     summary.entries = one_more(summary.entries);
-    count_acts(summary, &entry.acts);
+    count_acts(summary, machine.acts());
 }
 
 /// Counts acts.
-fn count_acts(summary: &mut Summary, acts: &Acts<'_>)
+#[tactic(auto, using(crate::proofs::Counts::acts_more))]
+fn count_acts(summary: &mut Summary, acts: &[Act])
     ensures { summary.new ≡ with_acts summary.old acts.now }
 {
-    for i in 0..acts.len() {
-        match acts.get(i) {
-            Some(act) => count_act(summary, act.get()),
-            None => unreachable!(),
-        }
+    for act in acts {
+        count_act(summary, act);
     }
 }
 

@@ -1,8 +1,7 @@
-use crate::{Summary, put_summary, summary_of};
+use crate::{Summary, put_summary, sum_up};
 use ata_gen::script_of;
 use ata_io::MemSink;
 use ata_script::read;
-use host_core::replay;
 use std::test::Fail;
 
 // A write of eight sectors and a read of them; then a number that was used, and a command that nobody issues.
@@ -40,7 +39,6 @@ live 0
 fn a_mixed_script_is_counted(rt: HostRuntime) {
     let alloc = rt.alloc();
     let script = read(alloc, MIXED).expect(&rt, "a script");
-    let host = replay(alloc, &script, 0).expect(&rt, "room for it");
     let want = Summary {
         commands: 4,
         accepted: 3,
@@ -55,15 +53,15 @@ fn a_mixed_script_is_counted(rt: HostRuntime) {
         entries: 11,
         live: 1,
     };
-    assert_eq!(rt; summary_of(script.steps.items(), &host), want);
+    let summary = sum_up(&rt, alloc, &script, 0).expect(&rt, "room for it");
+    assert_eq!(rt; summary, want);
 }
 
 #[test]
 fn the_first_script_is_summed_up(rt: HostRuntime) -> Result<(), Fail> {
     let alloc = rt.alloc();
     let script = script_of(alloc, 1).expect(&rt, "room for it");
-    let host = replay(alloc, &script, 200_000).expect(&rt, "room for its journals");
-    let summary = summary_of(script.steps.items(), &host);
+    let summary = sum_up(&rt, alloc, &script, 200_000).expect(&rt, "room for it");
     let mut sink = MemSink::new(alloc, 4096, Vec::new(alloc))?;
     assert!(rt; put_summary(&summary, &mut sink).is_ok());
     assert_eq!(rt; sink.bytes(), FIRST);
@@ -74,8 +72,7 @@ fn the_first_script_is_summed_up(rt: HostRuntime) -> Result<(), Fail> {
 fn a_failed_write_is_told(rt: HostRuntime) -> Result<(), Fail> {
     let alloc = rt.alloc();
     let script = script_of(alloc, 1).expect(&rt, "room for it");
-    let host = replay(alloc, &script, 0).expect(&rt, "room for its journals");
-    let summary = summary_of(script.steps.items(), &host);
+    let summary = sum_up(&rt, alloc, &script, 0).expect(&rt, "room for it");
     let mut sink = MemSink::new(alloc, 4096, vec![in alloc; 1]?)?;
     assert!(rt; put_summary(&summary, &mut sink).is_err());
     assert!(rt; sink.bytes().is_empty());

@@ -222,15 +222,38 @@ fn is_act(acts: &Acts<'_>, i: usize, act: &Act) -> bool {
 }
 
 #[test]
+fn a_journal_keeps_an_open_entry(rt: HostRuntime) -> Result<(), Fail> {
+    let alloc = rt.alloc();
+    let mut open = OpenEntry::new(alloc, Ms { n: 0 }, Who::Boot, 0, Step::Boot)?;
+    open.add(Act::Raised);
+    open.begin(Ms { n: 9 }, Who::Settle, 1, Step::Irq);
+    open.add(Act::Frozen);
+    open.add(Act::Thawed.copy());
+    assert_eq!(rt; open.acts().len(), 2);
+    let mut journal = Journal::new(alloc);
+    journal.reserve()?;
+    open.keep(&mut journal);
+    match journal.entry(0) {
+        Some(entry) => {
+            assert_eq!(rt; entry.at, Ms { n: 9 });
+            assert!(rt; is_act(&entry.acts, 0, &Act::Frozen));
+            assert!(rt; is_act(&entry.acts, 1, &Act::Thawed));
+        }
+        None => assert!(rt; false),
+    }
+    Ok(())
+}
+
+#[test]
 fn a_journal_keeps_its_entries(rt: HostRuntime) -> Result<(), Fail> {
     let mut journal = Journal::new(rt.alloc());
     journal.reserve()?;
     journal.begin(Ms { n: 0 }, Who::Boot, 0, Step::Boot);
-    journal.add(Act::Raised);
-    journal.add(Act::Frozen);
+    journal.add(&Act::Raised);
+    journal.add(&Act::Frozen);
     journal.reserve()?;
     journal.begin(Ms { n: 9 }, Who::Settle, 1, Step::Irq);
-    journal.add(Act::Nothing);
+    journal.add(&Act::Nothing);
     assert_eq!(rt; journal.len(), 2);
     match journal.entry(0) {
         Some(first) => {

@@ -1,6 +1,7 @@
 pub mod ActGroups
 pub mod Hosts
 pub mod Idle
+pub mod Journaled
 pub mod Kept
 pub mod PortView
 pub mod Quiet

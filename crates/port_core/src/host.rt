@@ -3,6 +3,7 @@ ghost use Rattle.std.specs.Option.{option_copied};
 ghost use Rattle.port_core.specs.Hosts.{AreNumbered, AreOfHost, at_port, journals_in, lives_of, stepped, with_room};
 
 use crate::port::Port;
+use crate::station::Station;
 use ata_base::{OutOfMemory, PortNo};
 use ata_trace::{Step, Who};
 use std::alloc::Global;

@@ -6,10 +6,12 @@ mod act_ranges;
 mod host;
 mod journal_ranges;
 mod laws;
+mod machine;
 mod number_ranges;
 mod port;
 mod quiet;
 mod ranges;
+mod station;
 mod text;
 
 pub use host::Host;
@@ -17,5 +19,7 @@ pub use laws::{
     actors_in_turn, legal_pasts_are_recoverable, one_in_line_order, one_text_of_journals,
     runs_are_legal, script_journals_are_legal,
 };
+pub use machine::Machine;
 pub use port::Port;
+pub use station::Station;
 pub use text::{put_host, put_port};

@@ -1,8 +1,8 @@
 -- The entry of the timer.
-use Rattle.std.proofs.Common.{◌≡◌, ◌∙◌, ℕ, ◌+◌, zero, suc, Bool, true, false, not, ◌&&◌, nat_lt, List, [], ◌∷◌, ◌++◌, Option, None, Some, length, drop, IsTrue, IsBitSet, ◌↔◌, refl, sym, ap, subst, arith}
-use Rattle.std.proofs.lemmas.Bool.{le-ltb, lt-ltb}
+use Rattle.std.proofs.Common.{◌≡◌, ◌∙◌, ℕ, ◌+◌, zero, suc, Bool, true, false, not, ◌&&◌, nat_lt, List, [], ◌∷◌, ◌++◌, Option, None, Some, if◌then◌else◌, length, drop, IsTrue, IsBitSet, ◌↔◌, refl, sym, ap, subst, arith}
+use Rattle.std.proofs.lemmas.Bool.{false_from_ne_true, le-ltb, lt-ltb}
 use Rattle.ata_trace.specs.declared.act.Act.{Act}
-use Rattle.ata_trace.specs.declared.act.Act.TheVariants.{Drained, Requested}
+use Rattle.ata_trace.specs.declared.act.Act.TheVariants.{Drained, Expired, Requested}
 use Rattle.host_tags.specs.Slots.{flight_at, is_busy}
 use Rattle.host_tags.specs.declared.in_flight.InFlight.{InFlight}
 use Rattle.host_timer.specs.Due.{has_due, is_due}
@@ -60,6 +60,30 @@ pub none_expires :
 none_expires time busy drained ledger bits idle =
     let none : expiries time drained (slots_in ledger) ≡ [] =
     none_busy_expires time drained (slots_in ledger) (λ tag is. subst (λ mask. IsBitSet mask tag) idle ((bits tag).1 is) refl) in
+    rw none (record { past = refl; head = refl; room = omega arith })
+
+-- ---- where none is due
+
+not_expired : (due expired : Bool) (act : Act) → due ≡ false → (if due && not expired then Some act else None) ≡ None
+not_expired due expired act late = rw late refl
+
+none_due_expires :
+    (time : ℕ) (drained : Bool) (flights : List (Option InFlight)) → ((tag : ℕ) → IsTrue (is_due time drained flights tag) → ⊥)
+    → expiries time drained flights ≡ []
+none_due_expires time drained [] none = refl
+none_due_expires time drained (None ∷ flights) none = none_due_expires time drained flights (λ tag. none (suc tag))
+none_due_expires time drained (Some f ∷ flights) none =
+    rw (not_expired (has_due time drained (Some f)) f.expired (Expired f.id f.number) (false_from_ne_true (has_due time drained (Some f)) (none zero)))
+    (none_due_expires time drained flights (λ tag. none (suc tag)))
+
+-- the timer tells of none
+pub none_due :
+    (time tags : ℕ) (drained : Bool) (ledger : LedgerView)
+    → ((tag : ℕ) → IsBitSet tags tag ↔ IsTrue (is_due time drained (slots_in ledger) tag)) → tags ≡ 0
+    → Adds ledger ledger (expiries time drained (slots_in ledger))
+none_due time tags drained ledger bits idle =
+    let none : expiries time drained (slots_in ledger) ≡ [] =
+    none_due_expires time drained (slots_in ledger) (λ tag is. subst (λ mask. IsBitSet mask tag) idle ((bits tag).1 is) refl) in
     rw none (record { past = refl; head = refl; room = omega arith })
 
 -- ---- a mask of the issues that are due, taken before the walk

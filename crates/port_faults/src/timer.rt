@@ -2,7 +2,7 @@ ghost use Rattle.std.specs.Prelude.{◌≡◌, ◌+◌, ◌<◌, ◌≤◌, ◌�
 ghost use Rattle.std.specs.List.{list_any};
 ghost use Rattle.ata_trace.specs.declared.act.Act.TheVariants.{Drained};
 ghost use Rattle.host_tags.specs.Slots.{flight_at, is_unowned};
-ghost use Rattle.host_timer.specs.Due.{has_due};
+ghost use Rattle.host_timer.specs.Due.{has_due, is_due};
 ghost use Rattle.port_ledger.specs.LedgerView.{past};
 ghost use Rattle.port_past.specs.Clock.{clock};
 ghost use Rattle.port_past.specs.Drain.{is_drained};
@@ -18,7 +18,7 @@ use ata_trace::Act;
 use host_tags::{InFlight, Slots};
 use host_timer::{drain_now, due};
 use port_ledger::Ledger;
-use port_telling::{drain_if, is_more, request_if};
+use port_telling::{drain_if, is_more, nothing, request_if};
 
 /// The timer tells of the issues that are due, and whether the port gives up waiting.
 #[tactic(auto, using(port_telling::proofs::AddLemmas::or_nothing_some, port_telling::proofs::AddLemmas::or_nothing_none))]
@@ -29,7 +29,7 @@ pub fn expire(ledger: &mut Ledger)
     let room = ledger.room();
     tell_time(ledger);
     if ledger.room() == room {
-        ledger.note(Act::Nothing);
+        nothing(ledger);
     }
 }
 
@@ -106,14 +106,26 @@ fn expire_all(ledger: &mut Ledger, clock: Ms, drained: bool)
     }
 }
 
-/// The timer walks over all tags.
-#[tactic(auto, using(port_telling::proofs::WalkLemmas::walk_begins))]
+/// The timer tells once of each issue that is due; none is where no tag is due.
 fn expire_busy(ledger: &mut Ledger, clock: Ms, drained: bool)
     requires room { 32 ≤ ledger.old.room }
     ensures adds { Adds ledger.old ledger.new (expiries clock.n drained (slots_in ledger.old)) }
     ensures spare { ledger.old.room ≤ ledger.new.room + 32 }
 {
     let tags = due(ledger.slots(), clock, drained);
+    if tags != 0 {
+        expire_due(ledger, clock, drained, tags);
+    }
+}
+
+/// The timer walks over all tags, of which these are due.
+#[tactic(auto, using(port_telling::proofs::WalkLemmas::walk_begins))]
+fn expire_due(ledger: &mut Ledger, clock: Ms, drained: bool, tags: u32)
+    requires room { 32 ≤ ledger.old.room }
+    requires due { (tag : ℕ) → IsBitSet tags tag ↔ IsTrue (is_due clock.n drained (slots_in ledger.old) tag) }
+    ensures adds { Adds ledger.old ledger.new (expiries clock.n drained (slots_in ledger.old)) }
+    ensures spare { ledger.old.room ≤ ledger.new.room + 32 }
+{
     for tag in 0..TAG_COUNT as u8 {
         expire_at(ledger, Tag::at(tag), is_in(tags, tag));
     }

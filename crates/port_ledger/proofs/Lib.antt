@@ -10,3 +10,4 @@ pub mod NotedLemmas
 pub mod QueueLemmas
 pub mod RingLemmas
 pub mod TaskLemmas
+pub mod TrackedLemmas

@@ -6,7 +6,7 @@ use Rattle.ata_base.specs.declared.speed_action.SpeedAction.TheVariants.{Speed}
 use Rattle.ata_script.specs.declared.port_head.PortHead.{PortHead}
 use Rattle.ata_trace.specs.Event.{Event}
 use Rattle.ata_trace.specs.declared.act.Act.{Act}
-use Rattle.ata_trace.specs.declared.act.Act.TheVariants.{Accepted, Done, Hot, Injected, Issued, Now, Recorded, Retried}
+use Rattle.ata_trace.specs.declared.act.Act.TheVariants.{Accepted, AnsweredOk, Done, Hot, Injected, Issued, Now, Recorded, Retried}
 use Rattle.ata_trace.specs.declared.step.Step.{Step}
 use Rattle.ata_trace.specs.declared.step.Step.TheVariants.{Submit}
 use Rattle.drive_model.specs.View.{DriveView}
@@ -73,6 +73,11 @@ IsLimited _ = Unit {0}
 abbrev pub IsEarly : Act → Type 0
 IsEarly (Now time) = time.n ≤ 2 ^ 62
 IsEarly _ = Unit {0}
+
+-- an act answers a command with success
+abbrev pub IsAnswerOk : Act → Type 0
+IsAnswerOk (AnsweredOk id number status error lba count stamps) = Unit {0}
+IsAnswerOk _ = ⊥
 
 -- what the parts need to know of an act after a past; it says no more than they need to be safe, and nothing of what is
 -- legal

@@ -1,4 +1,4 @@
-use Rattle.std.specs.Prelude.{◌≡◌, ◌+◌, ◌<◌, ◌≤◌, ◌^◌, List, length}
+use Rattle.std.specs.Prelude.{◌≡◌, ◌+◌, ◌*◌, ◌<◌, ◌≤◌, ◌^◌, List, length}
 use Rattle.ata_trace.specs.Entries.{past_of}
 use Rattle.ata_trace.specs.Event.{Event}
 use Rattle.host_tags.specs.Numbers.{AreUpTo}
@@ -36,9 +36,9 @@ use Rattle.port_past.specs.Queues.{queues, retried}
 use Rattle.port_past.specs.Rings.{rings}
 use Rattle.port_ledger.specs.LiveFlags.{ids_of, live_of}
 
--- the past that a ledger's journal tells
+-- the past that a ledger tells
 abbrev pub the_past : Inside → List Event
-the_past l = past_of l.journal.entries
+the_past l = past_of l.entry.entries
 
 -- each part is the reading of the past that it keeps, and has room for what may come
 pub record Tracks (l : Inside) : Type 0 where
@@ -88,16 +88,16 @@ pub record Tracks (l : Inside) : Type 0 where
   pub exclusive : l.exclusive ≡ exclusive (the_past l)
   pub tasks : l.eh.tasks ≡ tasks l.head (the_past l)
   pub numbers : AreUpTo l.issues l.flights
-  pub some : 0 < length l.journal.entries
+  pub some : 0 < length l.entry.entries
   pub early : l.clock ≤ 2 ^ 62
   pub issues_few : l.issues ≤ l.events
   pub settlings_few : l.settlings ≤ l.events
   pub detachments_few : AreAtMost l.events l.attachments.detachments
   pub ident_lates_few : AreAtMost l.events l.eh.recovery.ident_lates
   pub lowerings_few : AreAtMost l.events l.modes.lowerings
-  pub events_room : l.events + l.begins + l.room < 2 ^ 64
-  pub entry_room : l.begins ≤ l.journal.entry_room
-  pub act_room : l.room ≤ l.journal.act_room
-  pub commands_room : l.room ≤ l.commands.room
-  pub drives_room : l.room ≤ l.drives.room
-  pub queues_room : l.room ≤ l.queues.room
+  pub events_room : l.events + 129 * l.begins + l.room < 2 ^ 64
+  pub few : l.room ≤ 128
+  pub act_room : l.room ≤ l.entry.room
+  pub commands_room : l.room + 128 * l.begins ≤ l.commands.room
+  pub drives_room : l.room + 128 * l.begins ≤ l.drives.room
+  pub queues_room : l.room + 128 * l.begins ≤ l.queues.room

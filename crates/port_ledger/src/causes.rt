@@ -96,7 +96,9 @@ pub fn note_causes(causes: &mut Causes, act: &Act, step: &Step, pmp: bool)
     }
 }
 
-fn note_tferr(tferr: &mut Failures, act: &Act, step: &Step)
+/// By place, the failed issue of TFERR after an act.
+#[inline(always)]
+pub fn note_tferr(tferr: &mut Failures, act: &Act, step: &Step)
     ensures { (served : Bool) → tferr.new ≡ tferr_after (Told act.now) step.now served tferr.old }
 {
     match act {

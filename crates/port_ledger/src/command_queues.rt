@@ -54,7 +54,7 @@ impl CommandQueues {
 
     /// Makes room for `more` commands at every place. What waits stays, also where memory is wanted.
     pub fn reserve(&mut self, more: usize) -> Result<(), OutOfMemory>
-        requires { more ≤ 128 }
+        requires { more ≤ 256 }
         ensures lists { self.new.lists ≡ self.old.lists }
         ensures retried { self.new.retried ≡ self.old.retried }
         ensures room { OnOk result (more ≤ self.new.room) }

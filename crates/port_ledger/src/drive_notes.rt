@@ -20,6 +20,7 @@ use port_past::Completion;
 /// The drives after an act: the linked one takes issues, works, is asked for its log and its identity; the plugged one is
 /// reset, emptied where it is unplugged, and given faults.
 #[tactic(auto, using(crate::proofs::CommandLemmas::short_served))]
+#[inline(always)]
 pub fn note_drives(
     drives: &mut DriveList,
     act: &Act,
@@ -105,6 +106,7 @@ fn inject(drives: &mut DriveList, step: &Step, d: Option<DriveNo>)
 
 /// The completions after an act: an issue's is set by a good `done`, and goes with the issue and with a reset of its place
 /// or of the host.
+#[inline(always)]
 pub fn note_completions(
     completions: &mut CompletionList,
     act: &Act,

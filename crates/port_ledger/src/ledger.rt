@@ -1,16 +1,16 @@
-ghost use Rattle.std.specs.Prelude.{◌≡◌, ◌∷◌, ◌<◌, [], length, IfOk, OnOk, OnErr};
+ghost use Rattle.std.specs.Prelude.{◌≡◌, ◌∷◌, ◌<◌, ◌≤◌, [], IfOk, OnOk, OnErr};
 ghost use Rattle.ata_base.specs.Limits.{most_places};
 ghost use Rattle.ata_trace.specs.Entries.{past_of};
 ghost use Rattle.ata_trace.specs.Event.Event.{Entered, Told};
-ghost use Rattle.ata_trace.specs.declared.act.Act.TheVariants as acts;
 ghost use Rattle.ata_trace.specs.declared.step.Step.TheVariants as steps;
 ghost use Rattle.ata_trace.specs.declared.who.Who.TheVariants as by;
 ghost use Rattle.host_queue.specs.Waiting.{no_lists};
 ghost use Rattle.port_past.specs.Clock.{clock};
-ghost use Rattle.port_ledger.specs.LedgerView.{Goes, past};
+ghost use Rattle.port_ledger.specs.LedgerView.{Begins, Goes, past};
 ghost use Rattle.port_ledger.specs.Sound.{IsSound};
 
 mod commands;
+mod on_way;
 mod places;
 mod port;
 
@@ -32,20 +32,21 @@ use crate::numbered::NUMBERS;
 use crate::port_state::{PortState, note_state};
 use ata_base::{MOST_ACTS, Ms, OutOfMemory, Place};
 use ata_script::PortHead;
-use ata_trace::{Act, Journal, Step, Who};
+use ata_trace::{Act, OpenEntry, Step, Who};
 use std::alloc::Global;
 use std::marker::Model;
 
 /// How many events there may be before an entry, so that no count of them reaches 2^64.
-const MOST_EVENTS: u64 = 18_446_744_073_709_551_486;
+const MOST_EVENTS: u64 = 18_446_744_073_709_551_358;
 
-/// The journal of a port, and beside it every part that keeps a reading of the journal's past.
+/// The entry of a port that began last, and beside it every part that keeps a reading of what the port has told so far. A
+/// contract sees all entries; no memory holds those before the last.
 ///
 /// It changes in two ways: `begin` begins an entry, and `note` tells an act of it. Each is an event; none of the parts
 /// that count counts more than the events.
 #[derive(Drop)]
 pub struct Ledger {
-    journal: Journal,
+    entry: OpenEntry,
     head: PortHead,
     begins: usize,
     room: usize,
@@ -79,7 +80,7 @@ impl Model for Ledger {
 
     ghost view = { λ l. record {
       head = l.head;
-      entries = l.journal.entries;
+      entries = l.entry.entries;
       begins = l.begins;
       room = l.room;
     } };
@@ -88,24 +89,25 @@ impl Model for Ledger {
 }
 
 impl Ledger {
-    /// A journal in which the boot entry of a port with this head has begun. There is room for one entry and 128 acts.
+    /// The boot entry of a port with this head has begun. There is room for 128 acts of it, and for no other entry.
     pub fn new(alloc: Global, head: PortHead) -> Result<Ledger, OutOfMemory>
         ensures head { IfOk result (λ l. l.head ≡ head) }
         ensures past { IfOk result (λ l. past l ≡ Entered 0 by.Boot 0 steps.Boot ∷ []) }
-        ensures begins { IfOk result (λ l. l.begins ≡ 1) }
+        ensures begins { IfOk result (λ l. l.begins ≡ 0) }
         ensures room { IfOk result (λ l. l.room ≡ 128) }
     {
-        let journal = begun(alloc)?;
+        let entry = OpenEntry::new(alloc, Ms { n: 0 }, Who::Boot, 0, Step::Boot)?;
         let (commands, live, queues) = command_parts(alloc)?;
-        let drives = DriveList::new(alloc, head.drives.items())?;
+        let mut drives = DriveList::new(alloc, head.drives.items())?;
+        drives.reserve(MOST_ACTS)?;
         let completions = CompletionList::new(alloc)?;
         let eh = EhParts::new(alloc)?;
         let links = booted(head.drives.items());
-        let mut ledger = Ledger {
-            journal,
+        Ok(Ledger {
+            entry,
             head,
             begins: 0,
-            room: 0,
+            room: MOST_ACTS,
             events: 1,
             step: Step::Boot,
             clock: 0,
@@ -125,43 +127,37 @@ impl Ledger {
             live,
             queues,
             exclusive: None,
-        };
-        ledger.reserve()?;
-        Ok(ledger)
+        })
     }
 
-    /// Makes room for one entry and 128 acts. The journal stays; after a refusal the room stays too.
+    /// Makes room for one entry. All else stays; after a refusal the room stays too.
     pub fn reserve(&mut self) -> Result<(), OutOfMemory>
-        ensures ok { OnOk result (self.new ≡ record self.old { begins = 1; room = 128 }) }
+        ensures ok { OnOk result (self.new ≡ record self.old { begins = 1 }) }
         ensures err { OnErr result (self.new ≡ self.old) }
     {
         if self.events > MOST_EVENTS {
             return Err(OutOfMemory);
         }
-        self.journal.reserve()?;
-        self.commands.reserve(MOST_ACTS)?;
-        self.drives.reserve(MOST_ACTS)?;
-        self.queues.reserve(MOST_ACTS)?;
+        self.commands.reserve(self.room + MOST_ACTS)?;
+        self.drives.reserve(self.room + MOST_ACTS)?;
+        self.queues.reserve(self.room + MOST_ACTS)?;
         self.begins = 1;
-        self.room = MOST_ACTS;
         Ok(())
     }
 
-    /// Asks for memory for so many steps ahead of need: an entry each, two acts, and a command. Where it is refused, `reserve`
-    /// asks for what each step needs.
+    /// Asks for memory for as many commands ahead of need. Where it is refused, `reserve` asks for what each step needs.
     pub fn make_room(&mut self, steps: usize)
         ensures { self.new ≡ self.old }
     {
-        self.journal.expect(steps, steps.saturating_mul(2));
         let _ = self.commands.reserve(steps.min(NUMBERS));
     }
 
-    /// Begins an entry, at the time by the clock.
+    /// Begins an entry, at the time by the clock. It has room for 128 acts.
     pub fn begin(&mut self, who: Who, seq: u64, step: &Step)
         requires { 0 < self.old.begins }
-        ensures { Goes self.old self.new 1 0 (Entered (clock (past self.old)) who seq step.now ∷ past self.old) }
+        ensures { Begins self.old self.new (Entered (clock (past self.old)) who seq step.now ∷ past self.old) }
     {
-        self.journal.begin(Ms { n: self.clock }, who, seq, *step);
+        self.entry.begin(Ms { n: self.clock }, who, seq, *step);
         let served = !self.state.frozen && self.line;
         begin_noted(&mut self.eh.noted, &self.causes.tferr, step, served);
         begin_causes(&mut self.causes, step, served);
@@ -170,6 +166,7 @@ impl Ledger {
         self.step = *step;
         self.events += 1;
         self.begins -= 1;
+        self.room = MOST_ACTS;
     }
 
     /// Tells an act of the last entry.
@@ -178,24 +175,34 @@ impl Ledger {
         requires sound { IsSound self.old.head (past self.old) act }
         ensures { Goes self.old self.new 0 1 (Told act ∷ past self.old) }
     {
-        match act {
+        match &act {
+            Act::Accepted { id } => self.note_accepted(*id),
+            Act::Issued {
+                id,
+                number,
+                tag,
+                deadline,
+                fis,
+            } => self.note_issued(*id, *number, *tag, *deadline, *fis),
+            Act::Done {
+                number,
+                status,
+                error,
+                lba,
+                count,
+            } => self.note_done(*number, *status, *error, *lba, *count),
+            Act::AnsweredOk { .. } => self.note_answered_ok(act),
+            Act::Raised => self.note_raised(),
+            Act::Lost => self.note_lost(),
+            Act::Now { at } => self.note_now(*at),
+            Act::Deferred { id, why } => self.note_deferred(*id, *why),
             Act::Nothing => self.note_nothing(),
             _ => self.note_change(act),
         }
     }
 
-    // Tells that there was nothing to do, which changes no part but the journal.
-    fn note_nothing(&mut self)
-        requires { 0 < self.old.room }
-        ensures { Goes self.old self.new 0 1 (Told acts.Nothing ∷ past self.old) }
-    {
-        self.journal.add(Act::Nothing);
-        self.events += 1;
-        self.room -= 1;
-    }
-
     // The same of any act, told to each part.
-    #[inline(always)]
+    #[inline(never)]
     fn note_change(&mut self, act: Act)
         requires room { 0 < self.old.room }
         requires sound { IsSound self.old.head (past self.old) act }
@@ -255,32 +262,25 @@ impl Ledger {
         self.issues = notes::issue_count_after(&act, self.issues);
         self.clock = notes::clock_after(&act, self.clock);
         self.line = notes::line_after(&act, self.line);
-        self.journal.add(act);
+        self.entry.add(act);
         self.events += 1;
         self.room -= 1;
     }
 }
 
-// A journal in which the boot entry has begun, with room for its acts.
-fn begun(alloc: Global) -> Result<Journal, OutOfMemory>
-    ensures past { IfOk result (λ j. past_of j.entries ≡ Entered 0 by.Boot 0 steps.Boot ∷ []) }
-    ensures some { IfOk result (λ j. 0 < length j.entries) }
-{
-    let mut journal = Journal::new(alloc);
-    journal.reserve()?;
-    journal.begin(Ms { n: 0 }, Who::Boot, 0, Step::Boot);
-    Ok(journal)
-}
-
-// No command, none live, and none that waits.
+// No command, none live, and none that waits, with room for those of an entry.
 fn command_parts(alloc: Global) -> Result<(CommandTable, LiveFlags, CommandQueues), OutOfMemory>
     ensures commands { IfOk result (λ parts. parts.0.list ≡ []) }
     ensures live { IfOk result (λ parts. parts.1 ≡ []) }
     ensures queues { IfOk result (λ parts. parts.2.lists ≡ no_lists most_places) }
     ensures retried { IfOk result (λ parts. parts.2.retried ≡ []) }
+    ensures commands_room { IfOk result (λ parts. 128 ≤ parts.0.room) }
+    ensures queues_room { IfOk result (λ parts. 128 ≤ parts.2.room) }
 {
-    let commands = CommandTable::new(alloc)?;
+    let mut commands = CommandTable::new(alloc)?;
+    commands.reserve(MOST_ACTS)?;
     let live = LiveFlags::new(alloc)?;
-    let queues = CommandQueues::new(alloc)?;
+    let mut queues = CommandQueues::new(alloc)?;
+    queues.reserve(MOST_ACTS)?;
     Ok((commands, live, queues))
 }

@@ -1,4 +1,4 @@
-//! The ledger of a port: the journal, and beside it every part that keeps a reading of the journal's past.
+//! The ledger of a port: the entry that began last, and beside it every part that keeps a reading of the past.
 #![tactic(auto)]
 
 mod answers;

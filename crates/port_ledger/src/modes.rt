@@ -83,7 +83,9 @@ fn note_ncq_on(ncq_on: &mut [bool; MOST_PLACES], act: &Act)
     }
 }
 
-fn note_doubt(doubts: &mut [bool; MOST_PLACES], act: &Act, commands: &CommandTable)
+/// Whether the devices are dubious, by place, after an act.
+#[inline(always)]
+pub fn note_doubt(doubts: &mut [bool; MOST_PLACES], act: &Act, commands: &CommandTable)
     ensures { doubts.new ≡ dubious_after (Told act.now) commands.now.list doubts.old }
 {
     match act {

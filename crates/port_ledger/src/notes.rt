@@ -76,6 +76,7 @@ pub fn issue_count_after(act: &Act, was: u64) -> u64
 
 /// The accepted commands and the live ones: one more is accepted, or one is counted or answered.
 #[tactic(auto, using(crate::proofs::LiveLemmas::live_of_answer, crate::proofs::LiveLemmas::ids_retried))]
+#[inline(always)]
 pub fn note_commands(
     commands: &mut CommandTable,
     live: &mut LiveFlags,
@@ -156,6 +157,7 @@ pub fn submitted(id: CmdId, step: &Step, detachments: &Counts) -> Cmd
 
 /// The slots: an issue is in flight under its tag until the answer or the retry that names it.
 #[tactic(auto, using(host_tags::proofs::NumberLemmas::fresh_above, host_tags::proofs::NumberLemmas::up_to_put, host_tags::proofs::NumberLemmas::up_to_later, crate::proofs::FlightLemmas::up_to_without, crate::proofs::FlightLemmas::up_to_condemned, crate::proofs::FlightLemmas::up_to_expired))]
+#[inline(always)]
 pub fn note_slots(flights: &mut Flights, act: &Act, commands: &CommandTable, issues: u64)
     requires next { IsNext issues act.now }
     requires numbers { AreUpTo issues flights.old }
@@ -230,6 +232,7 @@ pub fn settlings_at(who: &Who, was: u64) -> u64
 
 /// The queues and the retried commands: an accepted command joins, an issued or refused one leaves, a retried one goes back
 /// at the end of recovery.
+#[inline(always)]
 pub fn note_queues(
     queues: &mut CommandQueues,
     act: &Act,

@@ -21,9 +21,25 @@ use ata_base::{Ms, Place};
 use ata_trace::Act;
 use eh_flow::{Row, next};
 use port_ledger::Ledger;
+use port_telling::nothing;
 
-/// A recover step: it tells the acts of its row.
+/// A recover step: it tells the acts of its row. On a port that isn't recovering there is nothing to do.
+#[tactic(auto, using(crate::proofs::RowLemmas::nothing_to_recover))]
 pub fn recover(ledger: &mut Ledger)
+    requires room { 128 ≤ ledger.old.room }
+    requires reached { IsRecoverable ledger.old.head (past ledger.old) }
+    ensures { Adds ledger.old ledger.new (recover_acts ledger.old.head (past ledger.old)) }
+{
+    if ledger.is_recovering() {
+        recover_on(ledger);
+    } else {
+        nothing(ledger);
+    }
+}
+
+/// The same at any port. It stands apart, so that it costs nothing where recovery isn't asked for and doesn't run.
+#[inline(never)]
+fn recover_on(ledger: &mut Ledger)
     requires room { 128 ≤ ledger.old.room }
     requires reached { IsRecoverable ledger.old.head (past ledger.old) }
     ensures { Adds ledger.old ledger.new (recover_acts ledger.old.head (past ledger.old)) }

@@ -8,7 +8,7 @@ use Rattle.ata_trace.specs.declared.act.Act.{Act}
 use Rattle.ata_trace.specs.declared.step.Step.{Step}
 use Rattle.ata_trace.specs.declared.step.Step.TheVariants.{Expire, Recover}
 use Rattle.ata_trace.specs.declared.who.Who.{Who}
-use Rattle.port_ledger.specs.LedgerView.{LedgerView, Goes, past}
+use Rattle.port_ledger.specs.LedgerView.{Begins, LedgerView, past}
 use Rattle.port_past.specs.Clock.{clock}
 use Rattle.port_rules.specs.Legal.{entry_after, legal_acts}
 use Rattle.port_rules.specs.Recover.{recover_acts}
@@ -21,7 +21,7 @@ entry_told :
     (rule : PortHead → List Event → List Act) → step ≡ taken
     → ((head : PortHead) (p : List Event) → rule head p ≡ legal_acts head p taken)
     → ((head : PortHead) (p : List Event) (at : ℕ) → rule head (Entered at who seq taken ∷ p) ≡ rule head p)
-    → Goes first begun 1 0 (Entered (clock (past first)) who seq step ∷ past first)
+    → Begins first begun (Entered (clock (past first)) who seq step ∷ past first)
     → Adds begun last (rule begun.head (past begun))
     → past last ≡ grown (past first) (entry_after first.head (past first) who seq step)
 entry_told {first} {begun} {last} {who} {seq} {step} taken rule is legal stays goes adds =
@@ -37,7 +37,7 @@ entry_told {first} {begun} {last} {who} {seq} {step} taken rule is legal stays g
 -- the timer's
 pub expire_told :
     {first begun last : LedgerView} {who : Who} {seq : ℕ} {step : Step} → step ≡ Expire
-    → Goes first begun 1 0 (Entered (clock (past first)) who seq step ∷ past first)
+    → Begins first begun (Entered (clock (past first)) who seq step ∷ past first)
     → Adds begun last (expire_acts begun.head (past begun))
     → past last ≡ grown (past first) (entry_after first.head (past first) who seq step)
 expire_told is goes adds = entry_told Expire expire_acts is (λ head p. refl) (λ head p at. refl) goes adds
@@ -45,7 +45,7 @@ expire_told is goes adds = entry_told Expire expire_acts is (λ head p. refl) (�
 -- recovery's
 pub recover_told :
     {first begun last : LedgerView} {who : Who} {seq : ℕ} {step : Step} → step ≡ Recover
-    → Goes first begun 1 0 (Entered (clock (past first)) who seq step ∷ past first)
+    → Begins first begun (Entered (clock (past first)) who seq step ∷ past first)
     → Adds begun last (recover_acts begun.head (past begun))
     → past last ≡ grown (past first) (entry_after first.head (past first) who seq step)
 recover_told is goes adds = entry_told Recover recover_acts is (λ head p. refl) (λ head p at. refl) goes adds

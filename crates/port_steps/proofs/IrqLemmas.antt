@@ -1,5 +1,6 @@
 -- The entry of an interrupt.
-use Rattle.std.proofs.Common.{◌≡◌, ◌∙◌, ℕ, ◌&&◌, ◌||◌, not, Bool, true, false, List, [], ◌∷◌, Option, Some, None, suc, zero, is_some, refl, ap, if◌then◌else◌}
+use Rattle.std.proofs.Common.{◌≡◌, ◌∙◌, ℕ, ◌&&◌, ◌||◌, not, Bool, true, false, List, [], ◌∷◌, ◌++◌, Option, Some, None, suc, zero, is_some, refl, sym, ap, if◌then◌else◌}
+use Rattle.std.proofs.lemmas.List.{append-nil}
 use Rattle.std.specs.List.{list_any, slice_index_or}
 use Rattle.ata_base.proofs.Truth.{neither}
 use Rattle.ata_base.specs.declared.err_mask.ErrMask.{ErrMask}
@@ -7,12 +8,12 @@ use Rattle.ata_trace.specs.Entries.{grown}
 use Rattle.ata_trace.specs.Event.{onto}
 use Rattle.ata_trace.specs.Event.Event.{Entered}
 use Rattle.ata_trace.specs.declared.act.Act.{Act}
-use Rattle.ata_trace.specs.declared.act.Act.TheVariants.{Nothing}
+use Rattle.ata_trace.specs.declared.act.Act.TheVariants.{Frozen, Nothing, Requested}
 use Rattle.ata_trace.specs.declared.step.Step.TheVariants.{Irq}
 use Rattle.ata_trace.specs.declared.who.Who.{Who}
 use Rattle.eh_autopsy.specs.declared.failed_issue.FailedIssue.{FailedIssue}
 use Rattle.host_tags.specs.declared.in_flight.InFlight.{InFlight}
-use Rattle.port_ledger.specs.LedgerView.{LedgerView, Goes, past}
+use Rattle.port_ledger.specs.LedgerView.{Begins, LedgerView, past}
 use Rattle.port_past.specs.Causes.{tferr, has_notify}
 use Rattle.port_past.specs.Clock.{clock}
 use Rattle.port_past.specs.Completions.{completions}
@@ -20,10 +21,11 @@ use Rattle.port_past.specs.Line.{is_irq_served}
 use Rattle.port_past.specs.PortState.{is_asked}
 use Rattle.port_past.specs.Slots.{slots}
 use Rattle.port_past.specs.declared.completion.Completion.{Completion}
-use Rattle.port_rules.specs.Interrupt.{is_struck, must_freeze, served_from}
+use Rattle.port_rules.specs.Interrupt.{is_struck, must_freeze, must_request, no_kinds, served_from}
 use Rattle.port_rules.specs.Legal.{entry_after}
-use Rattle.port_rules.specs.Sorting.{condemnations}
-use Rattle.port_rules.specs.Told.{or_nothing}
+use Rattle.port_rules.specs.Sorting.{condemnations, ok_answers}
+use Rattle.port_rules.specs.Told.{or_nothing, told_if}
+use Rattle.port_telling.proofs.AddLemmas.{adds_same}
 use Rattle.port_telling.specs.Adds.{Adds}
 use Rattle.port_steps.specs.Taken.{asks}
 use Rattle.port_telling.specs.Walks.{slots_in, completions_in}
@@ -100,7 +102,7 @@ pub served_told :
     → is_irq_served (past first) ≡ true
     → taken.failing ≡ tferr (past first) → taken.freeze ≡ must_freeze first.head (past first)
     → taken.notify ≡ has_notify first.head (past first)
-    → Goes first begun 1 0 (Entered (clock (past first)) who seq Irq ∷ past first)
+    → Begins first begun (Entered (clock (past first)) who seq Irq ∷ past first)
     → Adds begun last (or_nothing (acts_of taken begun))
     → past last ≡ grown (past first) (entry_after first.head (past first) who seq Irq)
 served_told {first} {begun} {last} {seq} {who} {taken} served failing freeze notify goes adds =
@@ -118,8 +120,37 @@ served_told {first} {begun} {last} {seq} {who} {taken} served failing freeze not
 pub unserved_told :
     {first begun last : LedgerView} {seq : ℕ} {who : Who}
     → is_irq_served (past first) ≡ false
-    → Goes first begun 1 0 (Entered (clock (past first)) who seq Irq ∷ past first)
+    → Begins first begun (Entered (clock (past first)) who seq Irq ∷ past first)
     → Adds begun last (Nothing ∷ [])
     → past last ≡ grown (past first) (entry_after first.head (past first) who seq Irq)
 unserved_told {first = first} {seq = seq} {who = who} served goes adds =
     adds.past ∙ ap (λ p. onto p (Nothing ∷ [])) goes.past ∙ rw served refl
+
+-- where no cause stands, the completed issues are answered, and nothing else is told
+calm_acts :
+    (taken : Taken) (ledger : LedgerView) → asks taken ≡ false
+    → acts_of taken ledger ≡ ok_answers (slots_in ledger) (completions_in ledger)
+calm_acts taken ledger calm =
+    let answers : List Act = ok_answers (slots_in ledger) (completions_in ledger) in
+    let first = neither (list_any is_some taken.failing || taken.freeze) taken.notify calm in
+    let freezes : taken.freeze ≡ false = (neither (list_any is_some taken.failing) taken.freeze first.0).1 in
+    ap (λ acts. answers ++ acts ++ told_if taken.freeze Frozen ++ told_if (asks taken && not (is_asked (past ledger))) Requested)
+    (none_struck taken no_kinds (slots_in ledger) (completions_in ledger) calm)
+    ∙ ap (λ freeze. answers ++ [] ++ told_if freeze Frozen ++ told_if (asks taken && not (is_asked (past ledger))) Requested) freezes
+    ∙ ap (λ request. answers ++ [] ++ [] ++ told_if (request && not (is_asked (past ledger))) Requested) calm
+    ∙ append-nil (answers ++ [] ++ []) ∙ append-nil (answers ++ []) ∙ append-nil answers
+
+pub calm_told :
+    {first begun last : LedgerView} {seq : ℕ} {who : Who}
+    → is_irq_served (past first) ≡ true → must_request first.head (past first) ≡ false
+    → Begins first begun (Entered (clock (past first)) who seq Irq ∷ past first)
+    → Adds begun last (or_nothing (ok_answers (slots_in begun) (completions_in begun)))
+    → past last ≡ grown (past first) (entry_after first.head (past first) who seq Irq)
+calm_told {first} {begun} {last} {seq} {who} served calm goes adds =
+    let taken : Taken = record {
+      failing = tferr (past first);
+      freeze = must_freeze first.head (past first);
+      notify = has_notify first.head (past first);
+    } in
+    served_told {taken = taken} served refl refl refl goes
+    (adds_same (ap or_nothing (sym (calm_acts taken begun calm))) adds)

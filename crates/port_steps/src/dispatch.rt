@@ -8,15 +8,15 @@ use crate::interrupt::irq;
 use crate::kick::kick;
 use crate::submit::submit;
 use crate::work::work;
-use ata_trace::{Act, Step, Who};
+use ata_trace::{Step, Who};
 use port_faults::{expire, inject, lose, plug, stray, tick, unplug};
 use port_ledger::Ledger;
 use port_recovery::recover;
+use port_telling::nothing;
 
 /// Makes the entry of a step.
 pub fn act(ledger: &mut Ledger, who: Who, seq: u64, step: &Step)
     requires begins { 0 < ledger.old.begins }
-    requires room { 128 ≤ ledger.old.room }
     requires reached { IsRecoverable ledger.old.head (past ledger.old) }
     ensures past { past ledger.new ≡ grown (past ledger.old) (entry_after ledger.old.head (past ledger.old) who seq step.now) }
     ensures head { ledger.new.head ≡ ledger.old.head }
@@ -38,7 +38,7 @@ pub fn act(ledger: &mut Ledger, who: Who, seq: u64, step: &Step)
         Step::Plug { place, drive } => plug(ledger, *place, *drive),
         Step::Unplug { place } => unplug(ledger, *place),
         Step::Inject { place, fault } => inject(ledger, *place, &fault.get()),
-        Step::Boot => ledger.note(Act::Nothing),
+        Step::Boot => nothing(ledger),
         Step::Irq => unreachable!(),
     }
 }

@@ -1,36 +1,84 @@
-ghost use Rattle.std.specs.Prelude.{◌≡◌, ◌+◌, ◌<◌, ◌≤◌};
+ghost use Rattle.std.specs.Prelude.{◌≡◌, ◌+◌, ◌<◌, ◌≤◌, true, false};
 ghost use Rattle.ata_trace.specs.Entries.{grown};
 ghost use Rattle.ata_trace.specs.declared.step.Step.TheVariants as steps;
 ghost use Rattle.port_ledger.specs.LedgerView.{past};
+ghost use Rattle.port_past.specs.Line.{is_irq_served};
 ghost use Rattle.port_past.specs.PortState.{is_asked};
-ghost use Rattle.port_rules.specs.Interrupt.{is_struck, no_kinds, served_from};
+ghost use Rattle.port_rules.specs.Interrupt.{is_struck, must_request, no_kinds, served_from};
 ghost use Rattle.port_rules.specs.Legal.{entry_after};
-ghost use Rattle.port_rules.specs.Sorting.{condemnations};
+ghost use Rattle.port_rules.specs.Sorting.{condemnations, ok_answers};
 ghost use Rattle.port_rules.specs.Told.{or_nothing};
 ghost use Rattle.port_telling.specs.Adds.{Adds};
 ghost use Rattle.port_steps.specs.Taken.{asks};
 ghost use Rattle.port_telling.specs.Walks.{completions_in, slots_in};
 
-use crate::taken::{Taken, asks, standing};
+use crate::taken::{Taken, asks, has_cause, standing};
 use ata_base::Kinds;
-use ata_trace::{Act, Step, Who};
+use ata_trace::{Step, Who};
 use port_ledger::Ledger;
-use port_telling::{answer_all, condemn_all, freeze_if, is_more, request_if};
+use port_telling::{answer_all, condemn_all, freeze_if, is_more, nothing, request_if};
 
 /// Makes the entry of an interrupt. The causes are asked before it begins, since its beginning takes them.
 pub fn irq(ledger: &mut Ledger, who: Who, seq: u64)
     requires begins { 0 < ledger.old.begins }
-    requires room { 67 ≤ ledger.old.room }
     ensures past { past ledger.new ≡ grown (past ledger.old) (entry_after ledger.old.head (past ledger.old) who seq steps.Irq) }
     ensures head { ledger.new.head ≡ ledger.old.head }
 {
-    if ledger.is_irq_served() {
-        let taken = standing(ledger);
-        ledger.begin(who, seq, &Step::Irq);
-        serve_or_nothing(ledger, &taken);
+    if !ledger.is_irq_served() {
+        pass(ledger, who, seq);
+    } else if has_cause(ledger) {
+        take(ledger, who, seq);
     } else {
-        ledger.begin(who, seq, &Step::Irq);
-        ledger.note(Act::Nothing);
+        answer(ledger, who, seq);
+    }
+}
+
+/// Makes the entry of an interrupt that isn't served.
+fn pass(ledger: &mut Ledger, who: Who, seq: u64)
+    requires begins { 0 < ledger.old.begins }
+    requires unserved { is_irq_served (past ledger.old) ≡ false }
+    ensures past { past ledger.new ≡ grown (past ledger.old) (entry_after ledger.old.head (past ledger.old) who seq steps.Irq) }
+    ensures head { ledger.new.head ≡ ledger.old.head }
+{
+    ledger.begin(who, seq, &Step::Irq);
+    nothing(ledger);
+}
+
+/// Makes the entry of an interrupt that is served. It stands apart, since what it takes is large, and most take nothing.
+#[inline(never)]
+fn take(ledger: &mut Ledger, who: Who, seq: u64)
+    requires begins { 0 < ledger.old.begins }
+    requires served { is_irq_served (past ledger.old) ≡ true }
+    ensures past { past ledger.new ≡ grown (past ledger.old) (entry_after ledger.old.head (past ledger.old) who seq steps.Irq) }
+    ensures head { ledger.new.head ≡ ledger.old.head }
+{
+    let taken = standing(ledger);
+    ledger.begin(who, seq, &Step::Irq);
+    serve_or_nothing(ledger, &taken);
+}
+
+/// Makes the entry of an interrupt that is served and takes nothing: it answers.
+fn answer(ledger: &mut Ledger, who: Who, seq: u64)
+    requires begins { 0 < ledger.old.begins }
+    requires served { is_irq_served (past ledger.old) ≡ true }
+    requires calm { must_request ledger.old.head (past ledger.old) ≡ false }
+    ensures past { past ledger.new ≡ grown (past ledger.old) (entry_after ledger.old.head (past ledger.old) who seq steps.Irq) }
+    ensures head { ledger.new.head ≡ ledger.old.head }
+{
+    ledger.begin(who, seq, &Step::Irq);
+    answer_or_nothing(ledger);
+}
+
+/// The completed issues are answered, and there may be nothing to do.
+#[tactic(auto, using(port_telling::proofs::AddLemmas::or_nothing_some, port_telling::proofs::AddLemmas::or_nothing_none))]
+fn answer_or_nothing(ledger: &mut Ledger)
+    requires room { 33 ≤ ledger.old.room }
+    ensures { Adds ledger.old ledger.new (or_nothing (ok_answers (slots_in ledger.old) (completions_in ledger.old))) }
+{
+    let room = ledger.room();
+    answer_all(ledger);
+    if ledger.room() == room {
+        nothing(ledger);
     }
 }
 
@@ -44,7 +92,7 @@ fn serve_or_nothing(ledger: &mut Ledger, taken: &Taken)
     let room = ledger.room();
     serve(ledger, taken);
     if ledger.room() == room {
-        ledger.note(Act::Nothing);
+        nothing(ledger);
     }
 }
 

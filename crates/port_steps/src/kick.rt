@@ -1,8 +1,8 @@
-ghost use Rattle.std.specs.Prelude.{◌<◌, ◌≤◌, ◌≡◌, Some, IsSome, IsTrue};
+ghost use Rattle.std.specs.Prelude.{◌<◌, ◌≤◌, ◌≡◌, ◌∷◌, [], Some, IsSome, IsTrue};
 ghost use Rattle.ata_base.specs.Operations.{is_data};
 ghost use Rattle.ata_tf.specs.CommandCodes.{command_frame};
 ghost use Rattle.ata_trace.specs.ScriptRanges.{IsScriptOp};
-ghost use Rattle.ata_trace.specs.declared.act.Act.TheVariants.{Exclusive};
+ghost use Rattle.ata_trace.specs.declared.act.Act.TheVariants.{AnsweredNodev, Exclusive};
 ghost use Rattle.port_ledger.specs.Commands.{CanServe};
 ghost use Rattle.port_ledger.specs.LedgerView.{past};
 ghost use Rattle.port_rules.specs.Kick.{command_acts, deferred_or_issued, frame_port, front_acts, is_for_port, is_queued, issued_acts, kick_acts, tag_named};
@@ -10,11 +10,12 @@ ghost use Rattle.port_rules.specs.Told.{told_if};
 ghost use Rattle.port_telling.specs.Adds.{Adds};
 
 use crate::deferral::may_issue;
-use ata_base::{Cmd, Deferral, IssueNo, Ms, Op, Place, Tag};
+use ata_base::{Cmd, CmdId, Deferral, IssueNo, Ms, Op, Place, Tag};
 use ata_script::PortHead;
 use ata_tf::{of_op, to_h2d};
 use ata_trace::Act;
 use port_ledger::Ledger;
+use port_telling::nothing;
 
 /// The front command of a place is answered where its device is gone, and else issued, or deferred for the first reason
 /// that holds.
@@ -24,7 +25,7 @@ pub fn kick(ledger: &mut Ledger, place: Place)
 {
     match ledger.front(place) {
         Some(cmd) => serve(ledger, &cmd),
-        None => ledger.note(Act::Nothing),
+        None => nothing(ledger),
     }
 }
 
@@ -35,14 +36,22 @@ fn serve(ledger: &mut Ledger, cmd: &Cmd)
     ensures { Adds ledger.old ledger.new (front_acts ledger.old.head (past ledger.old) (Some cmd.now)) }
 {
     if ledger.is_gone(cmd) {
-        ledger.note(Act::AnsweredNodev {
-            id: cmd.id,
-            number: IssueNo { n: 0 },
-        });
+        answer_gone(ledger, cmd.id);
     } else {
         let queued = is_queued(ledger, cmd);
         issue_or_defer(ledger, cmd, queued);
     }
+}
+
+/// A command that waits is answered, since its device is gone.
+fn answer_gone(ledger: &mut Ledger, id: CmdId)
+    requires room { 0 < ledger.old.room }
+    ensures { Adds ledger.old ledger.new (AnsweredNodev id (record { n = 0 }) ∷ []) }
+{
+    ledger.note(Act::AnsweredNodev {
+        id,
+        number: IssueNo { n: 0 },
+    });
 }
 
 /// Whether a command is queued: a read or a write where NCQ is on.
@@ -90,8 +99,15 @@ fn exclude_if(ledger: &mut Ledger, holds: bool, place: Place)
     ensures { Adds ledger.old ledger.new (told_if holds (Exclusive place)) }
 {
     if holds {
-        ledger.note(Act::Exclusive { place });
+        exclude(ledger, place);
     }
+}
+
+fn exclude(ledger: &mut Ledger, place: Place)
+    requires room { 0 < ledger.old.room }
+    ensures { Adds ledger.old ledger.new (Exclusive place ∷ []) }
+{
+    ledger.note(Act::Exclusive { place });
 }
 
 /// Issues a command under a tag, under the next number, due after its wait.

@@ -9,7 +9,7 @@ use ata_base::Place;
 use ata_script::DriveHead;
 use ata_trace::Act;
 use port_ledger::Ledger;
-use port_telling::{drive_of, identified};
+use port_telling::{drive_of, identified, nothing};
 
 /// Each drive that stands at a place is identified, attached and given its mode, place after place.
 #[tactic(auto, using(port_telling::proofs::AddLemmas::or_nothing_some, port_telling::proofs::AddLemmas::or_nothing_none, port_telling::proofs::AddLemmas::adds_act))]
@@ -21,7 +21,7 @@ pub fn boot(ledger: &mut Ledger)
     let room = ledger.room();
     find_all(ledger);
     if ledger.room() == room {
-        ledger.note(Act::Nothing);
+        nothing(ledger);
     }
 }
 

@@ -1,4 +1,5 @@
-ghost use Rattle.std.specs.Prelude.{◌≡◌, ◌<◌, false, IfNone, IsTrue};
+ghost use Rattle.std.specs.Prelude.{◌≡◌, ◌<◌, ◌∷◌, [], false, IfNone, IsTrue};
+ghost use Rattle.ata_trace.specs.declared.act.Act.TheVariants.{Refused};
 ghost use Rattle.port_ledger.specs.Commands.{AsksForFew};
 ghost use Rattle.port_ledger.specs.LedgerView.{past};
 ghost use Rattle.port_past.specs.Commands.{commands, is_accepted};
@@ -21,9 +22,16 @@ pub fn submit(ledger: &mut Ledger, id: CmdId, place: Place, op: &Op)
     ensures { Adds ledger.old ledger.new (submit_acts (past ledger.old) id place op.now) }
 {
     match refusal_of(ledger, id, place, op) {
-        Some(why) => ledger.note(Act::Refused { id, why }),
+        Some(why) => refuse(ledger, id, why),
         None => ledger.note(Act::Accepted { id }),
     }
+}
+
+fn refuse(ledger: &mut Ledger, id: CmdId, why: Refusal)
+    requires room { 0 < ledger.old.room }
+    ensures { Adds ledger.old ledger.new (Refused id why ∷ []) }
+{
+    ledger.note(Act::Refused { id, why });
 }
 
 /// The first reason to refuse a command. Where there is none, its number is new, and it asks for few sectors.

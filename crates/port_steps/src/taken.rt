@@ -1,7 +1,7 @@
 ghost use Rattle.std.specs.Prelude.{◌≡◌};
 ghost use Rattle.port_ledger.specs.LedgerView.{past};
 ghost use Rattle.port_past.specs.Causes.{has_notify, tferr};
-ghost use Rattle.port_rules.specs.Interrupt.{must_freeze};
+ghost use Rattle.port_rules.specs.Interrupt.{must_freeze, must_request};
 ghost use Rattle.port_steps.specs.Taken.{asks};
 
 use ata_base::MOST_PLACES;
@@ -15,6 +15,15 @@ pub struct Taken {
     pub failing: [Option<FailedIssue>; MOST_PLACES],
     pub freeze: bool,
     pub notify: bool,
+}
+
+/// Whether a cause stands that an interrupt takes.
+pub fn has_cause(ledger: &Ledger) -> bool
+    ensures { result ≡ must_request ledger.now.head (past ledger.now) }
+{
+    is_failing(ledger.failures())
+        || (ledger.has_iferr() || ledger.has_connect())
+        || ledger.has_notify()
 }
 
 /// The causes that stand, for an interrupt that takes them as its entry begins.

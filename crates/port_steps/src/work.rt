@@ -8,7 +8,7 @@ ghost use Rattle.port_telling.specs.Adds.{Adds};
 use ata_base::{IssueNo, Pick, Place, Regs};
 use ata_trace::Act;
 use port_ledger::Ledger;
-use port_telling::raise;
+use port_telling::{nothing, raise};
 
 /// The drive that is linked at a place ends the issue that it works on, and the line goes up.
 pub fn work(ledger: &mut Ledger, place: Place, pick: Pick)
@@ -18,14 +18,14 @@ pub fn work(ledger: &mut Ledger, place: Place, pick: Pick)
     let drive = match ledger.drive(place) {
         Some(drive) => drive,
         None => {
-            ledger.note(Act::Nothing);
+            nothing(ledger);
             return;
         }
     };
     let issue = match drive.picked(pick.get()) {
         Some(issue) => issue,
         None => {
-            ledger.note(Act::Nothing);
+            nothing(ledger);
             return;
         }
     };

@@ -1,10 +1,12 @@
 -- Walks over the tags during which the port tells acts.
-use Rattle.std.proofs.Common.{◌≡◌, ◌∙◌, ℕ, ◌+◌, ◌<◌, ◌≤◌, Bool, true, List, [], ◌∷◌, ◌++◌, Option, Some, None, suc, zero, length, get_or, drop, refl, sym, ap, arith, add-one, slice_set, length-append}
+use Rattle.std.proofs.Common.{◌≡◌, ◌∙◌, ℕ, ◌+◌, ◌/◌, ◌^◌, ◌<◌, ◌≤◌, ◌↔◌, Bool, true, IsTrue, IsBitSet, List, [], ◌∷◌, ◌++◌, Option, Some, None, is_some, suc, zero, length, get_or, drop, refl, sym, ap, subst, arith, add-one, slice_set, length-append}
+use Rattle.std.proofs.Math.Nat.{zero-div}
 use Rattle.std.specs.Option.{option_to_list}
 use Rattle.std.specs.List.{cons_option, filter_map}
 use Rattle.std.proofs.lemmas.Bool.{eq-eqb}
 use Rattle.std.proofs.lemmas.Grind.{drop_more_same}
 use Rattle.std.proofs.lemmas.List.{drop_all, drop-set-lt, get_or-drop}
+use Rattle.std.proofs.lemmas.Nat.{bit_set_by_shift, shr-shr}
 use Rattle.std.proofs.lemmas.Option.{unwrap_or-slice_get}
 use Rattle.ata_base.specs.declared.err_mask.ErrMask.{ErrMask}
 use Rattle.ata_script.specs.declared.port_head.PortHead.{PortHead}
@@ -18,7 +20,7 @@ use Rattle.host_tags.proofs.NumberLemmas.{without_here, changed_here}
 use Rattle.host_tags.specs.EachFlight.{kept_at}
 use Rattle.host_tags.specs.Marks.{condemned, expired}
 use Rattle.host_tags.specs.Numbers.{is_issue, without, changed_by_number, AreApart}
-use Rattle.host_tags.specs.Slots.{flight_at}
+use Rattle.host_tags.specs.Slots.{flight_at, is_busy}
 use Rattle.host_tags.specs.declared.in_flight.InFlight.{InFlight}
 use Rattle.port_ledger.proofs.ListLemmas.{where_found}
 use Rattle.port_ledger.specs.LedgerView.{LedgerView, past}
@@ -114,6 +116,45 @@ pub walk_ends :
 walk_ends {A} {tell} {beside} {tag} {first} {later} through up =
     let none : drop tag (slots_in first) ≡ [] =
     drop_all tag (slots_in first) (omega (arith, through, length_slots (past first))) in
+    record {
+      past = rw none at up.told;
+      head = up.head;
+      room = (let room = rw none at up.room in omega (arith, room));
+    }
+
+-- where no tag is busy nothing is told, if of a free tag nothing is
+none_busy_tells :
+    {A : Type 0} (tell : Telling A) (xs : List (Option InFlight)) (ys : List (Option A))
+    → ((it : Option A) → tell None it ≡ None) → ((tag : ℕ) → IsTrue (is_busy xs tag) → ⊥) → each_told tell xs ys ≡ []
+none_busy_tells tell [] ys free none = refl
+none_busy_tells tell (x ∷ xs) [] free none = refl
+none_busy_tells tell (None ∷ xs) (y ∷ ys) free none =
+    rw (free y) (none_busy_tells tell xs ys free (λ tag. none (suc tag)))
+none_busy_tells tell (Some f ∷ xs) (y ∷ ys) free none = absurd (none zero refl)
+
+kept_later : {A : Type 0} (list : List (Option A)) (from more : ℕ) → kept_at (drop from list) more ≡ kept_at list (from + more)
+kept_later list from more =
+    unwrap_or-slice_get (drop from list) more None ∙ get_or-drop from list more None
+    ∙ sym (unwrap_or-slice_get list (from + more) None)
+
+-- a mask that shifts to nothing has no bit from there on
+no_bit_from : (mask from more : ℕ) → mask / 2 ^ from ≡ 0 → IsBitSet mask (from + more) → ⊥
+no_bit_from mask from more none is =
+    let shifted : mask / 2 ^ (from + more) ≡ 0 =
+    sym (shr-shr mask from more) ∙ ap (λ n. n / 2 ^ more) none ∙ zero-div (2 ^ more) in
+    absurd (cc ((bit_set_by_shift mask (from + more)).1 is, shifted))
+
+-- past the last busy tag all is told
+pub walk_ends_early :
+    {A : Type 0} {tell : Telling A} {beside : KeptBeside A} {tag : ℕ} {first later : LedgerView} (busy : ℕ)
+    → ((it : Option A) → tell None it ≡ None) → ((t : ℕ) → IsBitSet busy t ↔ IsTrue (is_busy (slots_in first) t))
+    → busy / 2 ^ tag ≡ 0 → ToldUpTo tell beside tag first later
+    → Adds first later (each_told tell (slots_in first) (beside first))
+walk_ends_early {A} {tell} {beside} {tag} {first} {later} busy free bits idle up =
+    let none : each_told tell (drop tag (slots_in first)) (drop tag (beside first)) ≡ [] =
+    none_busy_tells tell (drop tag (slots_in first)) (drop tag (beside first)) free
+    (λ t is. no_bit_from busy tag t idle
+    ((bits (tag + t)).1 (subst (λ slot. IsTrue (is_some slot)) (kept_later (slots_in first) tag t) is))) in
     record {
       past = rw none at up.told;
       head = up.head;

@@ -6,5 +6,5 @@ mod tell;
 mod walks;
 
 pub use naming::{drive_of, identified};
-pub use tell::{drain_if, freeze_if, is_more, raise, request_if};
+pub use tell::{drain_if, freeze_if, is_more, nothing, raise, request_if};
 pub use walks::{answer_all, condemn_all};

@@ -1,5 +1,5 @@
-ghost use Rattle.std.specs.Prelude.{◌≡◌, ◌<◌, ◌≤◌, ◌&&◌, not};
-ghost use Rattle.ata_trace.specs.declared.act.Act.TheVariants.{Drained, Frozen, Requested};
+ghost use Rattle.std.specs.Prelude.{◌≡◌, ◌<◌, ◌≤◌, ◌&&◌, ◌∷◌, [], not};
+ghost use Rattle.ata_trace.specs.declared.act.Act.TheVariants.{Drained, Frozen, Nothing, Raised, Requested};
 ghost use Rattle.port_ledger.specs.LedgerView.{past};
 ghost use Rattle.port_rules.specs.Told.{raised_acts, told_if};
 ghost use Rattle.port_telling.specs.Adds.{Adds};
@@ -7,14 +7,32 @@ ghost use Rattle.port_telling.specs.Adds.{Adds};
 use ata_trace::Act;
 use port_ledger::Ledger;
 
+// An act has room in the frame of the function that makes it, and costs its size where that is entered, told or not. So
+// each is made in a function of its own.
+
+/// There was nothing to do.
+pub fn nothing(ledger: &mut Ledger)
+    requires room { 0 < ledger.old.room }
+    ensures { Adds ledger.old ledger.new (Nothing ∷ []) }
+{
+    ledger.note(Act::Nothing);
+}
+
 /// The port is frozen where something holds.
 pub fn freeze_if(ledger: &mut Ledger, holds: bool)
     requires room { 1 ≤ ledger.old.room }
     ensures { Adds ledger.old ledger.new (told_if holds Frozen) }
 {
     if holds {
-        ledger.note(Act::Frozen);
+        freeze(ledger);
     }
+}
+
+fn freeze(ledger: &mut Ledger)
+    requires room { 0 < ledger.old.room }
+    ensures { Adds ledger.old ledger.new (Frozen ∷ []) }
+{
+    ledger.note(Act::Frozen);
 }
 
 /// Recovery is asked for where something holds.
@@ -23,8 +41,15 @@ pub fn request_if(ledger: &mut Ledger, holds: bool)
     ensures { Adds ledger.old ledger.new (told_if holds Requested) }
 {
     if holds {
-        ledger.note(Act::Requested);
+        request(ledger);
     }
+}
+
+fn request(ledger: &mut Ledger)
+    requires room { 0 < ledger.old.room }
+    ensures { Adds ledger.old ledger.new (Requested ∷ []) }
+{
+    ledger.note(Act::Requested);
 }
 
 /// The port gives up waiting where something holds.
@@ -33,8 +58,15 @@ pub fn drain_if(ledger: &mut Ledger, holds: bool)
     ensures { Adds ledger.old ledger.new (told_if holds Drained) }
 {
     if holds {
-        ledger.note(Act::Drained);
+        drain(ledger);
     }
+}
+
+fn drain(ledger: &mut Ledger)
+    requires room { 0 < ledger.old.room }
+    ensures { Adds ledger.old ledger.new (Drained ∷ []) }
+{
+    ledger.note(Act::Drained);
 }
 
 /// Whether something holds that isn't so yet.
@@ -50,6 +82,13 @@ pub fn raise(ledger: &mut Ledger)
     ensures { Adds ledger.old ledger.new (raised_acts (past ledger.old)) }
 {
     if !ledger.is_line_up() {
-        ledger.note(Act::Raised);
+        lift(ledger);
     }
+}
+
+fn lift(ledger: &mut Ledger)
+    requires room { 0 < ledger.old.room }
+    ensures { Adds ledger.old ledger.new (Raised ∷ []) }
+{
+    ledger.note(Act::Raised);
 }

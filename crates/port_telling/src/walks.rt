@@ -13,7 +13,8 @@ use eh_autopsy::FailedIssue;
 use host_tags::InFlight;
 use port_ledger::Ledger;
 
-/// Answers the completed issues that aren't owned, in tag order. What is to be condemned stays.
+/// Answers the completed issues that aren't owned, in tag order. What is to be condemned stays. Past the last busy tag
+/// there is none.
 #[tactic(auto, using(crate::proofs::WalkLemmas::walk_begins))]
 pub fn answer_all(ledger: &mut Ledger)
     requires room { 32 ≤ ledger.old.room }
@@ -22,7 +23,11 @@ pub fn answer_all(ledger: &mut Ledger)
     ensures left { (test : InFlight → Bool) (kinds : ErrMask) → condemnations test kinds (slots_in ledger.new) (completions_in ledger.new)
         ≡ condemnations test kinds (slots_in ledger.old) (completions_in ledger.old) }
 {
+    let busy = ledger.slots().busy();
     for tag in 0..TAG_COUNT as u8 {
+        if busy >> tag == 0 {
+            return;
+        }
         answer_busy(ledger, Tag::at(tag));
     }
 }

@@ -6,7 +6,7 @@ ghost use Rattle.port_threads.specs.Moves.{AreOfActors, moves_in};
 use ata_base::{ActorNo, PortNo};
 use ata_script::PortHead;
 use ata_trace::{Step, Who};
-use port_core::{Port, runs_are_legal};
+use port_core::{Port, Station, runs_are_legal};
 use std::marker::Model;
 use turnstile::{Machine, OutOfMemory};
 

@@ -49,8 +49,8 @@ fn what_is_left_is_what_the_ports_tell(rt: HostRuntime) -> Result<(), Fail> {
     let mut first = MemSink::new(alloc, 4096, Vec::new(alloc))?;
     let mut second = MemSink::new(alloc, 4096, Vec::new(alloc))?;
     let want = Status::Left { k: live };
-    assert_eq!(rt; gen_all(alloc, 1000, 0, &mut first), want);
-    assert_eq!(rt; gen_all(alloc, 1000, 0, &mut second), want);
+    assert_eq!(rt; gen_all(&rt, alloc, 1000, 0, &mut first), want);
+    assert_eq!(rt; gen_all(&rt, alloc, 1000, 0, &mut second), want);
     let last = format!(in alloc; "live {live}\n")?;
     assert!(rt; first.bytes().ends_with(last.as_bytes()));
     assert_eq!(rt; first.bytes(), second.bytes());

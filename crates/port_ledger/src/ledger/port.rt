@@ -15,7 +15,7 @@ ghost use Rattle.port_ledger.specs.LedgerView.{past};
 use super::Ledger;
 use ata_base::{MOST_PLACES, Ms, Place};
 use ata_script::PortHead;
-use ata_trace::{Journal, Step};
+use ata_trace::{OpenEntry, Step};
 use eh_autopsy::FailedIssue;
 use port_past::{HostTold, Task};
 
@@ -28,11 +28,11 @@ impl Ledger {
         &self.head
     }
 
-    /// The journal, lent.
-    pub fn journal(&self) -> &Journal
+    /// The entry that began last, lent.
+    pub fn entry(&self) -> &OpenEntry
         ensures { result.now.entries ≡ self.now.entries }
     {
-        &self.journal
+        &self.entry
     }
 
     /// For how many more acts there is room.

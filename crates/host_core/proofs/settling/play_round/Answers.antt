@@ -8,66 +8,66 @@ use Rattle.host_core.specs.Settled.{round_after}
 use Rattle.host_core.proofs.settling.play_round.Goals as goal
 
 pub loop-kicked-preserved : goal.loop-kicked-preserved
-loop-kicked-preserved c =
-    kick_goes c.args.port.now c.loop-kicked.port c.take.new.port c.loop-kicked.idle c.in_ok-idle.idle
-    c.loop-kicked.kicked _ c.at-place.ensures (omega (arith, c.loop-kicked-test.true, c.places-places.ensures))
+loop-kicked-preserved g c =
+    kick_goes (g.S.Station.seen c.args.port.now) (g.S.Station.seen c.loop-kicked.port) (g.S.Station.seen c.take.new.port) c.loop-kicked.idle c.in_ok-idle.idle
+    c.loop-kicked.kicked _ c.at-place.ensures (omega (arith, c.loop-kicked-test.true, c.places-count.ensures))
     c.loop-kicked.invariant c.in_ok-idle.ensures.entries c.in_ok-idle.ensures.idle c.in_ok-idle.ensures.head c.in_ok-idle.ensures.number
 
 pub loop-worked-init : goal.loop-worked-init
-loop-worked-init c =
-    kicks_end c.args.port.now c.loop-kicked.port c.loop-kicked.idle c.loop-kicked.kicked
-    (omega (arith, c.loop-kicked-test.false, c.places-places.ensures)) c.loop-kicked.invariant
+loop-worked-init g c =
+    kicks_end (g.S.Station.seen c.args.port.now) (g.S.Station.seen c.loop-kicked.port) c.loop-kicked.idle c.loop-kicked.kicked
+    (omega (arith, c.loop-kicked-test.false, c.places-count.ensures)) c.loop-kicked.invariant
 
 pub loop-worked-preserved : goal.loop-worked-preserved
-loop-worked-preserved c =
-    work_goes c.args.port.now c.loop-worked.port c.take-in-loop-worked.new.port c.loop-worked.idle c.in_ok-idle-2.idle
-    c.loop-worked.worked _ _ c.at-place-in-loop-worked.ensures c.at-pick.ensures (omega (arith, c.loop-worked-test.true, c.places-places.ensures))
+loop-worked-preserved g c =
+    work_goes (g.S.Station.seen c.args.port.now) (g.S.Station.seen c.loop-worked.port) (g.S.Station.seen c.take-in-loop-worked.new.port) c.loop-worked.idle c.in_ok-idle-2.idle
+    c.loop-worked.worked _ _ c.at-place-in-loop-worked.ensures c.at-pick.ensures (omega (arith, c.loop-worked-test.true, c.places-count.ensures))
     c.loop-worked.invariant c.in_ok-idle-2.ensures.entries c.in_ok-idle-2.ensures.idle c.in_ok-idle-2.ensures.head c.in_ok-idle-2.ensures.number
 
 pub returns-in_err-timed-clause-part : goal.returns-in_err-timed-clause-part
-returns-in_err-timed-clause-part c =
-    let end = works_end c.args.port.now c.loop-worked.port c.loop-worked.idle c.loop-worked.worked (omega (arith, c.loop-worked-test.false, c.places-places.ensures)) c.loop-worked.invariant in
+returns-in_err-timed-clause-part g c =
+    let end = works_end (g.S.Station.seen c.args.port.now) (g.S.Station.seen c.loop-worked.port) c.loop-worked.idle c.loop-worked.worked (omega (arith, c.loop-worked-test.false, c.places-count.ensures)) c.loop-worked.invariant in
     let served =
-    rounding_goes c.args.port.now c.loop-worked.port c.take-2.new.port c.loop-worked.idle c.in_ok-served.served Irq (Expire ∷ Recover ∷ []) end
+    rounding_goes (g.S.Station.seen c.args.port.now) (g.S.Station.seen c.loop-worked.port) (g.S.Station.seen c.take-2.new.port) c.loop-worked.idle c.in_ok-served.served Irq (Expire ∷ Recover ∷ []) end
     c.in_ok-served.ensures.entries c.in_ok-served.ensures.idle c.in_ok-served.ensures.head c.in_ok-served.ensures.number in
     on_err_any c.from_residual-in_err-timed.result
-    (round_cut c.args.port.now c.take-2.new.port c.take-3.new.port c.in_ok-served.served (Expire ∷ Recover ∷ []) served c.in_err-timed.ensures.err)
+    (round_cut (g.S.Station.seen c.args.port.now) (g.S.Station.seen c.take-2.new.port) (g.S.Station.seen c.take-3.new.port) c.in_ok-served.served (Expire ∷ Recover ∷ []) served c.in_err-timed.ensures.err)
 
 pub returns-clause-entries : goal.returns-clause-entries
-returns-clause-entries c =
-    let end = works_end c.args.port.now c.loop-worked.port c.loop-worked.idle c.loop-worked.worked (omega (arith, c.loop-worked-test.false, c.places-places.ensures)) c.loop-worked.invariant in
+returns-clause-entries g c =
+    let end = works_end (g.S.Station.seen c.args.port.now) (g.S.Station.seen c.loop-worked.port) c.loop-worked.idle c.loop-worked.worked (omega (arith, c.loop-worked-test.false, c.places-count.ensures)) c.loop-worked.invariant in
     let served =
-    rounding_goes c.args.port.now c.loop-worked.port c.take-2.new.port c.loop-worked.idle c.in_ok-served.served Irq (Expire ∷ Recover ∷ []) end
+    rounding_goes (g.S.Station.seen c.args.port.now) (g.S.Station.seen c.loop-worked.port) (g.S.Station.seen c.take-2.new.port) c.loop-worked.idle c.in_ok-served.served Irq (Expire ∷ Recover ∷ []) end
     c.in_ok-served.ensures.entries c.in_ok-served.ensures.idle c.in_ok-served.ensures.head c.in_ok-served.ensures.number in
     let timed =
-    rounding_goes c.args.port.now c.take-2.new.port c.take-3.new.port c.in_ok-served.served c.in_ok-timed.timed Expire (Recover ∷ []) served
+    rounding_goes (g.S.Station.seen c.args.port.now) (g.S.Station.seen c.take-2.new.port) (g.S.Station.seen c.take-3.new.port) c.in_ok-served.served c.in_ok-timed.timed Expire (Recover ∷ []) served
     c.in_ok-timed.ensures.entries c.in_ok-timed.ensures.idle c.in_ok-timed.ensures.head c.in_ok-timed.ensures.number in
     on_ok_weaker c.take-4.result
-    (last_entries c.args.port.now c.take-3.new.port c.take-4.new.port c.in_ok-timed.timed Recover timed)
+    (last_entries (g.S.Station.seen c.args.port.now) (g.S.Station.seen c.take-3.new.port) (g.S.Station.seen c.take-4.new.port) c.in_ok-timed.timed Recover timed)
     c.take-4.ensures.entries
 
 pub returns-clause-idle : goal.returns-clause-idle
-returns-clause-idle c =
-    let end = works_end c.args.port.now c.loop-worked.port c.loop-worked.idle c.loop-worked.worked (omega (arith, c.loop-worked-test.false, c.places-places.ensures)) c.loop-worked.invariant in
+returns-clause-idle g c =
+    let end = works_end (g.S.Station.seen c.args.port.now) (g.S.Station.seen c.loop-worked.port) c.loop-worked.idle c.loop-worked.worked (omega (arith, c.loop-worked-test.false, c.places-count.ensures)) c.loop-worked.invariant in
     let served =
-    rounding_goes c.args.port.now c.loop-worked.port c.take-2.new.port c.loop-worked.idle c.in_ok-served.served Irq (Expire ∷ Recover ∷ []) end
+    rounding_goes (g.S.Station.seen c.args.port.now) (g.S.Station.seen c.loop-worked.port) (g.S.Station.seen c.take-2.new.port) c.loop-worked.idle c.in_ok-served.served Irq (Expire ∷ Recover ∷ []) end
     c.in_ok-served.ensures.entries c.in_ok-served.ensures.idle c.in_ok-served.ensures.head c.in_ok-served.ensures.number in
     let timed =
-    rounding_goes c.args.port.now c.take-2.new.port c.take-3.new.port c.in_ok-served.served c.in_ok-timed.timed Expire (Recover ∷ []) served
+    rounding_goes (g.S.Station.seen c.args.port.now) (g.S.Station.seen c.take-2.new.port) (g.S.Station.seen c.take-3.new.port) c.in_ok-served.served c.in_ok-timed.timed Expire (Recover ∷ []) served
     c.in_ok-timed.ensures.entries c.in_ok-timed.ensures.idle c.in_ok-timed.ensures.head c.in_ok-timed.ensures.number in
-    IfOk-weaker c.take-4.result _ (λ idle. idle ≡ are_idle (round_after c.args.port.now.head c.args.port.now.entries))
-    (λ still stays. last_idle c.args.port.now c.take-3.new.port c.in_ok-timed.timed still Recover timed stays)
+    IfOk-weaker c.take-4.result _ (λ idle. idle ≡ are_idle (round_after (g.S.Station.seen c.args.port.now).head (g.S.Station.seen c.args.port.now).entries))
+    (λ still stays. last_idle (g.S.Station.seen c.args.port.now) (g.S.Station.seen c.take-3.new.port) c.in_ok-timed.timed still Recover timed stays)
     c.take-4.ensures.idle
 
 pub returns-clause-part : goal.returns-clause-part
-returns-clause-part c =
-    let end = works_end c.args.port.now c.loop-worked.port c.loop-worked.idle c.loop-worked.worked (omega (arith, c.loop-worked-test.false, c.places-places.ensures)) c.loop-worked.invariant in
+returns-clause-part g c =
+    let end = works_end (g.S.Station.seen c.args.port.now) (g.S.Station.seen c.loop-worked.port) c.loop-worked.idle c.loop-worked.worked (omega (arith, c.loop-worked-test.false, c.places-count.ensures)) c.loop-worked.invariant in
     let served =
-    rounding_goes c.args.port.now c.loop-worked.port c.take-2.new.port c.loop-worked.idle c.in_ok-served.served Irq (Expire ∷ Recover ∷ []) end
+    rounding_goes (g.S.Station.seen c.args.port.now) (g.S.Station.seen c.loop-worked.port) (g.S.Station.seen c.take-2.new.port) c.loop-worked.idle c.in_ok-served.served Irq (Expire ∷ Recover ∷ []) end
     c.in_ok-served.ensures.entries c.in_ok-served.ensures.idle c.in_ok-served.ensures.head c.in_ok-served.ensures.number in
     let timed =
-    rounding_goes c.args.port.now c.take-2.new.port c.take-3.new.port c.in_ok-served.served c.in_ok-timed.timed Expire (Recover ∷ []) served
+    rounding_goes (g.S.Station.seen c.args.port.now) (g.S.Station.seen c.take-2.new.port) (g.S.Station.seen c.take-3.new.port) c.in_ok-served.served c.in_ok-timed.timed Expire (Recover ∷ []) served
     c.in_ok-timed.ensures.entries c.in_ok-timed.ensures.idle c.in_ok-timed.ensures.head c.in_ok-timed.ensures.number in
     on_err_weaker c.take-4.result
-    (round_cut c.args.port.now c.take-3.new.port c.take-4.new.port c.in_ok-timed.timed (Recover ∷ []) timed)
+    (round_cut (g.S.Station.seen c.args.port.now) (g.S.Station.seen c.take-3.new.port) (g.S.Station.seen c.take-4.new.port) c.in_ok-timed.timed (Recover ∷ []) timed)
     c.take-4.ensures.err

@@ -1,9 +1,9 @@
-use Rattle.std.proofs.Common.{◌∙◌, sym, arith}
+use Rattle.std.proofs.Common.{◌∙◌, refl, sym, arith}
 use Rattle.ata_trace.specs.Entries.{past_of}
 use Rattle.port_past.proofs.Sizes.{length_ends}
 use Rattle.port_rules.proofs.TagByTag.{answers_told}
 use Rattle.port_telling.proofs.AddLemmas.{adds_same}
-use Rattle.port_telling.proofs.WalkLemmas.{walk_goes, walk_ends}
+use Rattle.port_telling.proofs.WalkLemmas.{walk_goes, walk_ends, walk_ends_early}
 use Rattle.port_telling.specs.Walks.{slots_in, completions_in}
 use Rattle.port_telling.proofs.walks.answer_all.Goals as goal
 
@@ -19,3 +19,9 @@ pub returns-clause-adds : goal.returns-clause-adds
 returns-clause-adds c =
     adds_same (sym (answers_told (slots_in c.args.ledger.now) (completions_in c.args.ledger.now)))
     (walk_ends (omega arith) c.loop-tag.invariant.told)
+
+pub returns-then-busy-tag-eq0-clause-adds : goal.returns-then-busy-tag-eq0-clause-adds
+returns-then-busy-tag-eq0-clause-adds c =
+    adds_same (sym (answers_told (slots_in c.args.ledger.now) (completions_in c.args.ledger.now)))
+    (walk_ends_early _ (λ it. refl) (rw c.slots.ensures.value at c.busy-busy.ensures.bits)
+    (omega (arith, c.if-busy-tag-eq0.true)) c.loop-tag.invariant.told)

@@ -1,4 +1,5 @@
 use Rattle.std.proofs.Common.{◌∙◌, map, refl, ap, arith}
+use Rattle.ata_trace.specs.Entries.{past_of}
 use Rattle.ata_script.specs.declared.drive_head.DriveHead.{DriveHead}
 use Rattle.drive_model.specs.FreshAndReset.{fresh}
 use Rattle.port_past.specs.Links.{link_at_boot}
@@ -7,12 +8,12 @@ use Rattle.port_ledger.proofs.CountLemmas.{none_at_most}
 use Rattle.port_ledger.proofs.FlightLemmas.{up_to_none}
 use Rattle.port_ledger.proofs.ledger.Ledger.new.Goals as goal
 
-pub invariant_of-ledger : goal.invariant_of-ledger
-invariant_of-ledger c =
-    let past = c.in_ok-journal.ensures.past in
-    let state = c.new-4.ensures in
-    let attachments = c.new-5.ensures in
-    let causes = c.new-7.ensures in
+pub invariant_of-result : goal.invariant_of-result
+invariant_of-result c =
+    let past = ap past_of c.in_ok-entry.ensures.entries in
+    let state = c.new-5.ensures in
+    let attachments = c.new-6.ensures in
+    let causes = c.new-8.ensures in
     record {
       step = rw past refl;
       clock = rw past refl;
@@ -28,9 +29,9 @@ invariant_of-ledger c =
       attached = rw past (ap (λ a. a.attached) attachments);
       detachments = rw past (ap (λ a. a.detachments) attachments);
       commands = rw past c.in_ok-commands.ensures.commands;
-      slots = rw past c.new-6.ensures;
+      slots = rw past c.new-7.ensures;
       links = rw past (c.booted-links.ensures ∙ ap (λ heads. map (link_at_boot heads) all_places) c.items-2.ensures);
-      drives = rw past (c.in_ok-drives.ensures ∙ ap (λ heads. map (λ (h : DriveHead). fresh h.identity h.ready) heads) c.items.ensures);
+      drives = rw past (c.reserve.ensures.list ∙ c.in_ok-drives.ensures ∙ ap (λ heads. map (λ (h : DriveHead). fresh h.identity h.ready) heads) c.items.ensures);
       completions = rw past c.in_ok-completions.ensures;
       tferr = rw past (ap (λ x. x.tferr) causes);
       iferr = rw past (ap (λ x. x.iferr) causes);
@@ -43,11 +44,11 @@ invariant_of-ledger c =
       actions = rw past c.in_ok-eh.ensures.actions;
       logs = rw past c.in_ok-eh.ensures.logs;
       probes = rw past c.in_ok-eh.ensures.probes;
-      udmas = rw past c.new-8.ensures.udmas;
-      ncq_on = rw past c.new-8.ensures.ncq_on;
-      dubious = rw past c.new-8.ensures.dubious;
-      lowerings = rw past c.new-8.ensures.lowerings;
-      ncq_ended = rw past c.new-8.ensures.ncq_ended;
+      udmas = rw past c.new-9.ensures.udmas;
+      ncq_on = rw past c.new-9.ensures.ncq_on;
+      dubious = rw past c.new-9.ensures.dubious;
+      lowerings = rw past c.new-9.ensures.lowerings;
+      ncq_ended = rw past c.new-9.ensures.ncq_ended;
       identities = rw past c.in_ok-eh.ensures.identities;
       identified_by = rw past c.in_ok-eh.ensures.identified_by;
       answered = rw past c.in_ok-eh.ensures.answered;
@@ -59,18 +60,18 @@ invariant_of-ledger c =
       judged = rw past c.in_ok-eh.ensures.judged;
       exclusive = rw past refl;
       tasks = rw past c.in_ok-eh.ensures.tasks;
-      numbers = rw c.new-6.ensures (up_to_none 0);
-      some = c.in_ok-journal.ensures.some;
+      numbers = rw c.new-7.ensures (up_to_none 0);
+      some = rw c.in_ok-entry.ensures.entries (omega arith);
       early = omega arith;
       issues_few = omega arith;
       settlings_few = omega arith;
       detachments_few = rw (ap (λ a. a.detachments) attachments) (none_at_most 1);
       ident_lates_few = rw c.in_ok-eh.ensures.ident_lates (none_at_most 1);
-      lowerings_few = rw c.new-8.ensures.lowerings (none_at_most 1);
+      lowerings_few = rw c.new-9.ensures.lowerings (none_at_most 1);
       events_room = omega arith;
-      entry_room = omega arith;
-      act_room = omega arith;
-      commands_room = omega arith;
-      drives_room = omega arith;
-      queues_room = omega arith;
+      few = omega arith;
+      act_room = omega (arith, c.in_ok-entry.ensures.room);
+      commands_room = omega (arith, c.in_ok-commands.ensures.commands_room);
+      drives_room = omega (arith, c.in_ok-reserve.ensures.room);
+      queues_room = omega (arith, c.in_ok-commands.ensures.queues_room);
     }

@@ -1,0 +1,28 @@
+use Rattle.std.proofs.Common.{◌≡◌, ◌<◌, ap, sym, arith}
+use Rattle.ata_trace.specs.Entries.{past_of}
+use Rattle.port_past.specs.Line.{is_irq_served}
+use Rattle.port_ledger.proofs.TrackedLemmas.{calm_of, timed_of, asked_of, still_few, still_roomy, tracks_all}
+use Rattle.port_ledger.proofs.ledger.Ledger.note_done.Goals as goal
+
+pub invariant_of-self : goal.invariant_of-self
+invariant_of-self c =
+    let past = c.add.ensures.past in
+    let was = c.self.invariant in
+    let room : c.args.self.now.room ≡ c.self.inside.room = ap (λ r. r.room) (sym c.self.view_is) in
+    let some : 0 < c.self.inside.room = omega (arith, c.requires.room, room) in
+    tracks_all _
+    (rw past (calm_of _ was))
+    (rw past (timed_of _ was))
+    (rw past (asked_of _ was))
+    (record {
+      issues = rw past was.issues;
+      slots = rw past was.slots;
+      drives = rw (past, ← was.drives, ← was.step, ← was.links) c.note_drives.ensures.list;
+      completions = rw (past, ← was.completions, ← was.step, ← was.slots, ← was.links, ← was.drives) c.note_completions.ensures;
+      tferr = rw (past, ← was.tferr, ← was.step) (c.note_tferr.ensures (is_irq_served (past_of c.self.inside.entry.entries)));
+      dubious = rw past was.dubious;
+      exclusive = rw past was.exclusive;
+    })
+    (record { numbers = was.numbers; some = c.add.ensures.some; early = was.early; issues = omega (arith, was.issues_few) })
+    (still_few _ was)
+    (still_roomy _ _ _ _ _ was some c.add.ensures.room (omega arith) c.note_drives.ensures.room (omega arith))
